@@ -223,18 +223,28 @@ def judge_mutants(report, count, jobs):
     report.case(profile.wrong % "mutants", breaches, 0)
     report.case("some mutants are accepted, and are not the same", kinds["accepted"] > count // 50, True)
 
-def find_breach(count):
-    """Loads the accepted vectors and then the mutants, up to the first one that breaks the promise."""
-    for vector in read_vectors(profile.vectors):
+def find_breach(words):
+    """Loads the accepted vectors and then the mutants, up to the first one that breaks the promise. Vectors that should be
+    refused come first: most mistakes show there."""
+    for vector in sorted(read_vectors(profile.vectors), key=lambda vector: vector.wanted == "accepted"):
         if load(vector.data).breach is not None:
             return "the vector '%s'" % vector.name
-    for number in range(count):
+    set_work(words, read_files(words.folders))
+    for number in range(words.count):
         if load(mutant(work.seed, number, work.corpus)[0]).breach is not None:
             return "mutant %d of seed %d" % (number, work.seed)
     return None
 
+def set_work(words, files):
+    """Sets what mutants are made of: the files and vectors with tables of which the oracle accepts the others."""
+    global work  # pylint: disable=global-statement
+    corpus = [data for _, data in files if len(data) <= MOST_BYTES] + [v.data for v in read_vectors(profile.vectors)]
+    work = argparse.Namespace(
+        seed=words.seed, corpus=[data for data in corpus if profile.parts(data)
+                                 and rule_of(verdict_on(data)) in ("accepted", "rebase-total", "bind-total")])
+
 def main():
-    global oracle, profile, work  # pylint: disable=global-statement
+    global oracle, profile  # pylint: disable=global-statement
     parser = argparse.ArgumentParser(prog="tests/dyld")
     parser.add_argument("--sealed", dest="profile", action="store_const", const="sealed", default="linked",
                         help="the sealed profile")
@@ -249,15 +259,12 @@ def main():
     words = parser.parse_args()
     began = time.monotonic()
     oracle, profile = load_module(words.oracle), PROFILES[words.profile]
+    if words.first:
+        print("the first breach: %s" % find_breach(words), file=sys.stderr)
+        return
     report = Report(words.keep)
     files = read_files(words.folders)
-    corpus = [data for _, data in files if len(data) <= MOST_BYTES] + [v.data for v in read_vectors(profile.vectors)]
-    work = argparse.Namespace(
-        seed=words.seed, corpus=[data for data in corpus if profile.parts(data)
-                                 and rule_of(verdict_on(data)) in ("accepted", "rebase-total", "bind-total")])
-    if words.first:
-        print("the first breach: %s" % find_breach(words.count), file=sys.stderr)
-        return
+    set_work(words, files)
     judge_vectors(report)
     judge_files(report, files)
     judge_mutants(report, words.count, words.jobs)
