@@ -8,7 +8,6 @@ of the slice; `in_file` adds where the slice begins.
 
 from __future__ import annotations
 
-import hashlib
 import sys
 from pathlib import Path
 from types import SimpleNamespace
@@ -865,8 +864,6 @@ def data_in_code(image: Any, place: int) -> Explanation:
 
 # Code signatures. Their numbers are big-endian.
 
-CODE_DIRECTORY_SLOTS = (0, *range(0x1000, 0x1005))
-HASH_SIZES = {1: 20, 2: 32, 3: 20, 4: 48}
 # From which version on a code directory has fields up to so many bytes.
 DIRECTORY_SIZES = {0x20000: 44, 0x20100: 48, 0x20200: 52, 0x20300: 64, 0x20400: 88, 0x20500: 96, 0x20600: 108}
 
@@ -961,8 +958,8 @@ def directory_numbers(data: bytes, start: int, length: int, dataoff: int) -> Opt
     limit, slots = directory_limit(data, start), word(28)
     compared = [
         (version >= 0x20100 and word(44) != 0, word(44), 0),
-        (hash_type not in HASH_SIZES, hash_type, 4),
-        (hash_size != HASH_SIZES.get(hash_type), hash_size, HASH_SIZES.get(hash_type)),
+        (hash_type not in oracle.HASH_SIZES, hash_type, 4),
+        (hash_size != oracle.HASH_SIZES.get(hash_type), hash_size, oracle.HASH_SIZES.get(hash_type)),
         (page_size > 31, page_size, 31),
         (word(24) * hash_size > word(16), word(24) * hash_size, word(16)),
         (word(16) + slots * hash_size > length, word(16) + slots * hash_size, length),
@@ -1072,7 +1069,7 @@ def signature_slack(image: Any, place: int) -> Explanation:
 
 def has_hash(data: bytes, part: Part, directory: Part, hash_part: Part) -> bool:
     """Whether the hash of a part, of the type of the directory, is the one there."""
-    function = (hashlib.sha1, hashlib.sha256, hashlib.sha256, hashlib.sha384)[data[directory.start + 37] - 1]
+    function = oracle.HASHES[data[directory.start + 37]][1]
     wanted = data[hash_part.start:hash_part.start + hash_part.size]
     return function(data[part.start:part.start + part.size]).digest()[:len(wanted)] == wanted
 
@@ -1088,7 +1085,7 @@ def signature_hash(image: Any, place: int) -> Explanation:
     """By the first directory in which the page or the blob at the place has no hash, or another."""
     blobs, data = signature_blobs(image), image.data
     special = next((it for it in blobs if 0 < it[0] < 0x1000 and it[1].start == place), None)
-    for _, directory in (it for it in blobs if it[0] in CODE_DIRECTORY_SLOTS):
+    for _, directory in (it for it in blobs if it[0] in oracle.DIRECTORY_SLOTS):
         found = of_special(data, *special, directory) if special else of_page(data, place, directory)
         if found:
             return found

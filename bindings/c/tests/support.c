@@ -142,31 +142,21 @@ FIRST_BATCH(function_starts, uint64_t)
 FIRST_BATCH(data_in_code, struct kesvuot_data_in_code)
 FIRST_BATCH(blobs, struct kesvuot_blob)
 
-// How many of the first blobs are code directories.
-static size_t read_code_directory(const struct file *file, const struct kesvuot_image *image) {
-    static struct kesvuot_blob rows[BATCH];
-    struct kesvuot_cursor cursor = {0};
-    struct kesvuot_code_directory directory;
-    size_t found = 0;
-    const size_t count = kesvuot_read_blobs(file->bytes, file->size, image, &cursor, rows, BATCH);
-    for (size_t index = 0; index < count; index++) {
-        found += kesvuot_read_code_directory(file->bytes, file->size, &rows[index], &directory) == KESVUOT_OK;
+// How many of the first blobs are code directories, and how many have a hash as these.
+#define OF_BLOBS(call, type)                                                                                           \
+    static size_t call(const struct file *file, const struct kesvuot_image *image) {                                   \
+        static struct kesvuot_blob rows[BATCH];                                                                        \
+        struct kesvuot_cursor cursor = {0};                                                                            \
+        type row;                                                                                                      \
+        size_t found = 0;                                                                                              \
+        const size_t count = kesvuot_read_blobs(file->bytes, file->size, image, &cursor, rows, BATCH);                 \
+        for (size_t index = 0; index < count; index++) {                                                               \
+            found += kesvuot_##call(file->bytes, file->size, &rows[index], &row) == KESVUOT_OK;                        \
+        }                                                                                                              \
+        return found;                                                                                                  \
     }
-    return found;
-}
-
-// How many of the first blobs have a hash as code directories.
-static size_t read_cdhash(const struct file *file, const struct kesvuot_image *image) {
-    static struct kesvuot_blob rows[BATCH];
-    struct kesvuot_cursor cursor = {0};
-    struct kesvuot_cdhash cdhash;
-    size_t found = 0;
-    const size_t count = kesvuot_read_blobs(file->bytes, file->size, image, &cursor, rows, BATCH);
-    for (size_t index = 0; index < count; index++) {
-        found += kesvuot_read_cdhash(file->bytes, file->size, &rows[index], &cdhash) == KESVUOT_OK;
-    }
-    return found;
-}
+OF_BLOBS(read_code_directory, struct kesvuot_code_directory)
+OF_BLOBS(read_cdhash, struct kesvuot_cdhash)
 
 static size_t symbol_name(const struct file *file, const struct kesvuot_image *image) {
     static struct kesvuot_symbol rows[BATCH];
