@@ -32,7 +32,7 @@ use crate::table::explain_command;
 use crate::walk::{Walked, walk_end};
 use macho_fat::{Slice, slice_at};
 use macho_fields::header::loader::{LOAD_COMMAND_SIZE, MACH_HEADER_64_SIZE};
-use macho_fields::{Bytes, Order, Rule, Span};
+use macho_fields::{Bytes, Order, Profile, Rule, Span};
 use macho_rows::span::{Held, held_at};
 
 // An image in a file, and the slice that it is.
@@ -107,6 +107,15 @@ enum Subject {
 
 // What each rule of an image is about.
 fn subject_of(rule: Rule) -> Subject {
+    match rule.profile() {
+        Profile::Layout | Profile::Strict => subject_of_layout(rule),
+        Profile::Linked => subject_of_linked(rule),
+        Profile::Sealed => Subject::Seal,
+    }
+}
+
+// What each rule of the layout or of the strict profile is about.
+fn subject_of_layout(rule: Rule) -> Subject {
     match rule {
         Rule::HeaderTruncated
         | Rule::ArchMismatch
@@ -114,8 +123,7 @@ fn subject_of(rule: Rule) -> Subject {
         | Rule::CommandsOutside
         | Rule::DylibId
         | Rule::CommandsEnd
-        | Rule::HeaderSegment
-        | Rule::HeaderHome => Subject::Header,
+        | Rule::HeaderSegment => Subject::Header,
         Rule::CommandWalk => Subject::Walk,
         Rule::SegmentAddress
         | Rule::SegmentSize
@@ -123,13 +131,16 @@ fn subject_of(rule: Rule) -> Subject {
         | Rule::SegmentOverlap
         | Rule::SegmentFileOverlap => Subject::Segment,
         Rule::SectionAddress | Rule::SectionFile | Rule::SectionRelocs => Subject::Section,
-        Rule::SymbolName
-        | Rule::SymbolSection
-        | Rule::IndirectIndex
-        | Rule::SymbolLibrary
-        | Rule::SymbolValue
-        | Rule::SymbolIndirect => Subject::Symbol,
+        Rule::SymbolName | Rule::SymbolSection | Rule::IndirectIndex => Subject::Symbol,
         Rule::StrayByte | Rule::CommandSlack | Rule::UnclaimedByte => Subject::Byte,
+        _ => Subject::Command,
+    }
+}
+
+// What each linked rule is about.
+fn subject_of_linked(rule: Rule) -> Subject {
+    match rule {
+        Rule::HeaderHome => Subject::Header,
         Rule::RebaseOpcode
         | Rule::RebaseSlot
         | Rule::RebaseTotal
@@ -153,10 +164,7 @@ fn subject_of(rule: Rule) -> Subject {
         | Rule::ExportAddress => Subject::Exports,
         Rule::FunctionNumber | Rule::FunctionStart | Rule::DataInCode => Subject::Functions,
         Rule::SignatureBlob | Rule::SignatureDirectory | Rule::SignatureWhole => Subject::Signature,
-        Rule::SignatureMissing
-        | Rule::DirectoryRepeated
-        | Rule::SignatureSlack
-        | Rule::SignatureHash => Subject::Seal,
+        Rule::SymbolLibrary | Rule::SymbolValue | Rule::SymbolIndirect => Subject::Symbol,
         Rule::Relocation => Subject::Relocation,
         _ => Subject::Command,
     }
