@@ -2,12 +2,16 @@
 
 from __future__ import annotations
 
-from typing import Dict, List, NamedTuple, Optional
+from typing import Dict, List, NamedTuple, Optional, Tuple
 
 from ._names import count_text
 from ._structures import number_in
 from ._teller import Story, Teller
-from .constants import LC_IDENT, LC_LINKER_OPTION, LC_PREBOUND_DYLIB, LC_ROUTINES, LC_ROUTINES_64
+from .constants import (
+    LC_ATOM_INFO, LC_FUNCTION_VARIANT_FIXUPS, LC_FUNCTION_VARIANTS, LC_FVMFILE, LC_IDENT, LC_IDFVMLIB, LC_LINKER_OPTION,
+    LC_LOADFVMLIB, LC_PREBIND_CKSUM, LC_PREBOUND_DYLIB, LC_PREPAGE, LC_ROUTINES, LC_ROUTINES_64, LC_SOURCE_VERSION,
+    LC_SUB_CLIENT, LC_SUB_FRAMEWORK, LC_SUB_LIBRARY, LC_SUB_UMBRELLA, LC_SYMSEG, LC_TARGET_TRIPLE, LC_TWOLEVEL_HINTS,
+    LC_VERSION_MIN_IPHONEOS, LC_VERSION_MIN_MACOSX, LC_VERSION_MIN_TVOS, LC_VERSION_MIN_WATCHOS)
 
 X86_64, ARM64 = 0x0100_0007, 0x0100_000C
 X86_THREAD_STATE64, X86_THREAD_STATE, ARM_THREAD_STATE64 = 4, 7, 6
@@ -24,11 +28,27 @@ REGISTERS: Dict[int, Dict[int, Registers]] = {
     X86_64: {X86_THREAD_STATE64: Registers(42, 128), X86_THREAD_STATE: Registers(44, 136)},
     ARM64: {ARM_THREAD_STATE64: Registers(68, 256)}}
 
-# How many bytes the structure of each command has whose contents the linked profile judges.
-CONTENT_SIZES = {
-    0x3: 16, 0x6: 20, 0x7: 20, 0x8: 8, 0x9: 16, 0xA: 8, 0x10: 20, 0x11: 40, **dict.fromkeys(range(0x12, 0x16), 12),
-    0x16: 16, 0x17: 12, 0x1A: 72, 0x24: 16, 0x25: 16, 0x2A: 16, 0x2D: 12, 0x2F: 16, 0x30: 16,
-    **dict.fromkeys((0x36, 0x37, 0x38), 16), 0x39: 12}
+
+class Held(NamedTuple):
+    """A command whose contents the linked profile judges: how many bytes its structure has; the offset of the field
+    that has the offset of its name, or 0; and of a range that it names the offsets of two fields, its start and how
+    many items it has, and how many bytes an item has."""
+
+    size: int
+    name: int = 0
+    span: Optional[Tuple[int, int, int]] = None
+
+
+HELD: Dict[int, Held] = {
+    LC_SYMSEG: Held(16, span=(8, 12, 1)), LC_LOADFVMLIB: Held(20, 8), LC_IDFVMLIB: Held(20, 8), LC_IDENT: Held(8),
+    LC_FVMFILE: Held(16, 8), LC_PREPAGE: Held(8), LC_PREBOUND_DYLIB: Held(20, 8), LC_ROUTINES: Held(40),
+    LC_SUB_FRAMEWORK: Held(12, 8), LC_SUB_UMBRELLA: Held(12, 8), LC_SUB_CLIENT: Held(12, 8),
+    LC_SUB_LIBRARY: Held(12, 8), LC_TWOLEVEL_HINTS: Held(16, span=(8, 12, 4)), LC_PREBIND_CKSUM: Held(12),
+    LC_ROUTINES_64: Held(72),
+    LC_VERSION_MIN_MACOSX: Held(16), LC_VERSION_MIN_IPHONEOS: Held(16), LC_SOURCE_VERSION: Held(16),
+    LC_LINKER_OPTION: Held(12), LC_VERSION_MIN_TVOS: Held(16), LC_VERSION_MIN_WATCHOS: Held(16),
+    LC_ATOM_INFO: Held(16, span=(8, 12, 1)), LC_FUNCTION_VARIANTS: Held(16, span=(8, 12, 1)),
+    LC_FUNCTION_VARIANT_FIXUPS: Held(16, span=(8, 12, 1)), LC_TARGET_TRIPLE: Held(12, 8)}
 ROUTINES = (LC_ROUTINES, LC_ROUTINES_64)
 
 
@@ -83,21 +103,104 @@ def _registers(it: Teller, state: State, known: Registers) -> Story:
     return it.story(f"{it.at} begins at address {entry:#x}, where no executable segment has a byte of the file.")
 
 
+class Content:
+    """A command whose contents are judged, and the bytes past its structure that may be other ones than 0."""
+
+    def __init__(self, it: Teller) -> None:
+        self.it = it
+        self.data = bytes(it.case.data[it.at_part.start:it.at_part.end])
+        self.cmd = self.word(0)
+        self.held = HELD[self.cmd]
+        self.claimed = [(0, self.held.size)]
+
+    def word(self, offset: int) -> int:
+        return int.from_bytes(self.data[offset:offset + 4], "little")
+
+    def fault(self) -> str:
+        """What is wrong with it, as a part of a sentence."""
+        return (self.name() or self.span() or self.bits() or self.strings() or self.options() or self.stray()
+                or self.routine())
+
+    def name(self) -> str:
+        if not self.held.name:
+            return ""
+        start = self.word(self.held.name)
+        if start < self.held.size:
+            return f"has the offset {start} of its name, inside its structure of {self.held.size} bytes"
+        end = self.data.find(0, start)
+        if end < 0:
+            return f"has a name at offset {start} that does not end in it"
+        self.claimed.append((start, end + 1))
+        return ""
+
+    def span(self) -> str:
+        if not self.held.span:
+            return ""
+        start, items, width = self.held.span
+        end = self.word(start) + self.word(items) * width
+        if self.word(items) == 0 or end <= self.it.case.slice.size:
+            return ""
+        return f"names bytes that end at {end:#x}, past the end of {self.it.whole}, {self.it.case.slice.size:#x}"
+
+    def bits(self) -> str:
+        """Those of an LC_PREBOUND_DYLIB: one for each module of the library."""
+        if self.cmd != LC_PREBOUND_DYLIB:
+            return ""
+        modules, start = self.word(12), self.word(16)
+        end = start + (modules + 7) // 8
+        self.claimed.append((start, end))
+        if modules == 0 or (self.held.size <= start and end <= len(self.data)):
+            return ""
+        return f"has bits for {count_text(modules, 'module')} at offset {start}, not all in it and past its structure"
+
+    def strings(self) -> str:
+        """Those of an LC_IDENT, up to its end."""
+        if self.cmd != LC_IDENT:
+            return ""
+        self.claimed.append((self.held.size, len(self.data)))
+        is_ended = self.data[self.held.size:][-1:] in (b"", b"\0")
+        return "" if is_ended else "has strings of which the last does not end in it"
+
+    def options(self) -> str:
+        """Those of an LC_LINKER_OPTION, as many as it counts."""
+        if self.cmd != LC_LINKER_OPTION:
+            return ""
+        wanted, end = self.word(8), self.held.size
+        for number in range(wanted):
+            zero = self.data.find(0, end)
+            if zero < 0:
+                return f"counts {count_text(wanted, 'string')}, and {number} of them end in it"
+            end = zero + 1
+        self.claimed.append((self.held.size, end))
+        return ""
+
+    def stray(self) -> str:
+        for offset, byte in enumerate(self.data):
+            if byte and not any(start <= offset < end for start, end in self.claimed):
+                return f"has the byte {byte:02x} at offset {offset}, which is in none of its parts"
+        return ""
+
+    def routine(self) -> str:
+        """That of a routine with whole parts: there is an earlier one, or it is at no code."""
+        width = 8 if self.cmd == LC_ROUTINES_64 else 4
+        address = int.from_bytes(self.data[8:8 + width], "little")
+        if self.is_second():
+            return "is a second routine, and an image has one"
+        return f"calls the address {address:#x}, where no executable segment has a byte of the file"
+
+    def is_second(self) -> bool:
+        data, place = self.it.case.data, self.it.case.slice.start + 32
+        while place < self.it.at_part.start:
+            if number_in(data[place:], "load_command", "cmd") in ROUTINES:
+                return True
+            place += number_in(data[place:], "load_command", "cmdsize")
+        return False
+
+
 def command_content(it: Teller) -> Story:
-    cmd = number_in(it.case.data[it.at_part.start:], "load_command", "cmd")
     if not it.limit:
         return it.story(f"{it.at} is for no image of this kind.")
     if it.value < it.limit:
         return it.story(f"{it.at} has a cmdsize of {it.value}, and its structure has {it.limit} bytes.", "cmdsize",
                         "size of the structure")
-    parts = _named_by(cmd) or "what its fields name"
-    more = ", or an earlier command names a routine too" if cmd in ROUTINES else ""
-    return it.story(f"{it.at} does not hold {parts}, or has a byte past it that is not 0{more}.", "cmdsize",
-                    "size of the structure")
-
-
-def _named_by(cmd: int) -> Optional[str]:
-    """What the fields of a command name, in words, if they are no name or range."""
-    return {LC_IDENT: "strings that end in it", LC_LINKER_OPTION: "as many strings as its count says",
-            LC_PREBOUND_DYLIB: "its name and the bits of its modules",
-            **dict.fromkeys(ROUTINES, "the address of an executable byte of the file")}.get(cmd)
+    return it.story(f"{it.at} {Content(it).fault()}.", "cmdsize", "size of the structure")

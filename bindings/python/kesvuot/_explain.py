@@ -12,7 +12,7 @@ from typing import Any, Dict, Iterator, List, Optional, Tuple
 from ._case import Case
 from ._check import ACCEPTED, NO_VERDICT, Choice, Outcome, Target, judge
 from ._dump import Mark, dump
-from ._command_stories import CONTENT_SIZES
+from ._command_stories import HELD
 from ._explanation import Part as FilePart
 from ._files import ARCHITECTURES, File, Image
 from ._names import command_name
@@ -42,7 +42,7 @@ JUDGED_BY_LINKED = {"rebase opcodes", "bind opcodes", "weak bind opcodes", "lazy
                     "export trie", "exports trie", "function starts", "data in code", "code signature",
                     "external relocations", "local relocations"}
 # The commands of no rule of RULES.md that it judges.
-COMMANDS_OF_LINKED = {LC_THREAD, LC_UNIXTHREAD, *CONTENT_SIZES}
+COMMANDS_OF_LINKED = {LC_THREAD, LC_UNIXTHREAD, *HELD}
 
 Rows = List[Tuple[str, ...]]
 
