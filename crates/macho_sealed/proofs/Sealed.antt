@@ -34,6 +34,7 @@ use Rattle.macho_tables.specs.Homes.{bytes_of_table}
 use Rattle.macho_sealed.proofs.Good.{whole_signature}
 use Rattle.macho_sealed.proofs.HashTests.{has_hash_or_not, special_or_not}
 use Rattle.macho_sealed.proofs.PageSpans.{page_inside, page_holds, page_only}
+use Rattle.macho_sealed.proofs.TakenSlots.{none_repeated}
 use Rattle.macho_sealed.proofs.Verdicts.{of_images}
 
 -- whether one of the first blobs, so many, has an offset
@@ -96,7 +97,7 @@ module _ (image : List ℕ) (start : ℕ) (signature : List ℕ) (signed : IsSig
   is_seal = record {
     placed = signed;
     directories = directory_seals;
-    apart = λ j k before less is same. repeated (entry_offset k) (k, less, refl, (is, (j, before, same)));
+    apart = none_repeated signature repeated;
     rest = rest;
   }
     where

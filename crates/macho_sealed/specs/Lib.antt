@@ -5,6 +5,7 @@ pub mod Signature
 pub mod Slack
 pub mod Slots
 pub mod Good
+pub mod Directories
 pub mod Cdhashes
 pub mod Rules
 pub mod Sealed

@@ -1,5 +1,6 @@
 -- The slots of code directories that the first entries of a signature have.
 use Rattle.std.specs.Prelude.{◌≡◌, ◌↔◌, ℕ, ◌+◌, ◌-◌, ◌<◌, ◌==◌, List, length, get_or, Bool, true, false, if◌then◌else◌}
+use Rattle.macho_sealed.specs.declared.slots.TheConstants as slots
 use Rattle.macho_signature.specs.Superblobs.{blob_at, is_directory_slot}
 use Rattle.macho_signature.specs.declared.cs_blobs.TheConstants as cs
 
@@ -14,6 +15,6 @@ HasSlot signature count slot = (j : ℕ) × (j < count) × ((blob_at signature j
 
 -- it is noted of each slot whether one of them has it
 pub record AreTaken (signature : List ℕ) (count : ℕ) (taken : List Bool) : Type 0 where
-  pub size : length taken ≡ 6
+  pub size : length taken ≡ slots.DIRECTORY_SLOTS
   pub slots : (slot : ℕ) → is_directory_slot slot ≡ true
       → (get_or taken (slot_number slot) false ≡ true) ↔ HasSlot signature count slot

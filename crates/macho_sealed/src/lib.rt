@@ -9,12 +9,14 @@
 pub mod cdhash;
 mod check;
 pub mod digest;
+mod directories;
 mod hashes;
 pub mod law;
 pub mod pages;
 mod repeated;
 mod signature;
 mod slack;
+mod slots;
 pub mod specials;
 #[cfg(test)]
 mod tests;

@@ -1,28 +1,41 @@
-//! The pages of a code directory, against its hashes. (`cs_blobs.h`: `CS_CodeDirectory`)
+//! The pages of code directories, against their hashes. (`cs_blobs.h`: `CS_CodeDirectory`)
 
-ghost use Rattle.std.specs.Prelude.{◌≡◌, ◌≤◌, ◌<◌, length};
+ghost use Rattle.std.specs.Prelude.{◌≡◌, ◌≤◌, ◌<◌};
 ghost use Rattle.macho_fields.specs.Bytes.{bytes_of};
 ghost use Rattle.macho_fields.specs.FirstPlace.{IsLeastPlace};
-ghost use Rattle.macho_sealed.specs.Pages.{page_at as page_at_of, code_slot as code_slot_of, BadPage};
-ghost use Rattle.macho_signature.specs.CodeDirectories.{HasHashes, HasSlots};
+ghost use Rattle.macho_sealed.specs.Directories.{AreWhole, HaveOtherPage, HaveOtherOfSize};
+ghost use Rattle.macho_sealed.specs.Pages.{page_at as page_at_of, code_slot as code_slot_of};
+ghost use Rattle.macho_signature.specs.CodeDirectories.{HasSlots};
 ghost use Rattle.macho_spans.specs.Span.{end_of};
 
-use crate::digest::has_hash;
+use crate::directories::{Directories, have_page, one_of_size};
 use macho_fields::{Bytes, Span};
 use macho_signature::CodeDirectory;
+use macho_signature::cs_blobs::MOST_PAGE_SIZE;
+use macho_tables::place::lesser;
 
-/// The first byte of the first page of an image of which the code directory with this blob has another hash. The
-/// directory is sound, and its limit inside the image.
-pub fn first_other_page(image: Bytes, blob: Bytes, directory: CodeDirectory) -> Option<u64>
-    requires hashes { HasHashes (length (bytes_of blob)) directory }
-    requires slots { HasSlots directory }
-    requires limit { directory.limit ≤ length (bytes_of image) }
-    ensures { IsLeastPlace (BadPage (bytes_of image.entry) (bytes_of blob.entry) directory) result }
+// The first byte of the first page of an image of which a code directory has another hash. Those with pages of one size
+// share a walk over the image.
+pub(crate) fn first_other_page(image: Bytes, directories: &Directories) -> Option<u64>
+    requires { AreWhole (bytes_of image) directories.now }
+    ensures { IsLeastPlace (HaveOtherPage (bytes_of image.entry) directories.now) result }
 {
-    for index in 0..directory.code_slots {
-        let page = page_at(directory, index);
-        let hash = blob.read_part(code_slot(directory, index));
-        if !has_hash(directory.hash_type, image.read_part(page), hash) {
+    let mut least = None;
+    for page_size in 0..MOST_PAGE_SIZE + 1 {
+        least = lesser(least, first_other_of_size(image, directories, page_size));
+    }
+    least
+}
+
+// That of those with pages of this size. Each page is read once, and hashed for each of them.
+fn first_other_of_size(image: Bytes, directories: &Directories, page_size: u8) -> Option<u64>
+    requires { AreWhole (bytes_of image) directories.now }
+    ensures { IsLeastPlace (HaveOtherOfSize (bytes_of image.entry) directories.now page_size) result }
+{
+    let one = one_of_size(directories, page_size)?;
+    for index in 0..one.code_slots {
+        let page = page_at(one, index);
+        if !have_page(directories, page_size, index, image.read_part(page)) {
             return Some(page.start);
         }
     }

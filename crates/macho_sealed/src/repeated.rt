@@ -1,20 +1,14 @@
-//! Two code directories of a signature in one slot. (`cs_blobs.h`: `CSSLOT_CODEDIRECTORY`,
-//! `CSSLOT_ALTERNATE_CODEDIRECTORIES`)
+//! Two code directories of a signature in one slot.
 
-ghost use Rattle.std.specs.Prelude.{◌≡◌, ◌<◌, true};
 ghost use Rattle.macho_fields.specs.Bytes.{bytes_of};
 ghost use Rattle.macho_fields.specs.FirstPlace.{IsLeastPlace};
 ghost use Rattle.macho_sealed.specs.Signature.{RepeatedDirectory};
-ghost use Rattle.macho_sealed.specs.Slots.{slot_number as slot_number_of};
-ghost use Rattle.macho_signature.specs.Superblobs.{is_directory_slot, AreGoodBlobs};
+ghost use Rattle.macho_signature.specs.Superblobs.{AreGoodBlobs};
 
 use crate::signature::{blob_at, superblob_of};
+use crate::slots::{DIRECTORY_SLOTS, slot_number};
 use macho_fields::Bytes;
-use macho_signature::cs_blobs::{CSSLOT_ALTERNATE_CODEDIRECTORIES, CSSLOT_CODEDIRECTORY};
 use macho_signature::superblob::entry_offset;
-
-// How many slots of code directories there are: that which each signature has, and five others.
-const DIRECTORY_SLOTS: usize = 6;
 
 // The first entry of a signature with the slot of an earlier one, of those of code directories.
 pub(crate) fn first_repeated(signature: Bytes) -> Option<u64>
@@ -34,17 +28,4 @@ pub(crate) fn first_repeated(signature: Bytes) -> Option<u64>
         }
     }
     None
-}
-
-// The slots of code directories, counted from 0.
-fn slot_number(slot: u32) -> usize
-    requires { is_directory_slot slot ≡ true }
-    ensures number { result ≡ slot_number_of slot }
-    ensures fits { result < DIRECTORY_SLOTS }
-{
-    if slot == CSSLOT_CODEDIRECTORY {
-        0
-    } else {
-        (slot - CSSLOT_ALTERNATE_CODEDIRECTORIES) as usize + 1
-    }
 }

@@ -1,37 +1,33 @@
-//! The blobs of a signature in special slots, against the hashes of a code directory. An offset is one in the
+//! The blobs of a signature in special slots, against the hashes of its code directories. An offset is one in the
 //! signature. (`cs_blobs.h`: `CS_CodeDirectory.nSpecialSlots`)
 
 ghost use Rattle.std.specs.Prelude.{◌≡◌, ◌↔◌, ◌*◌, ◌≤◌, length, IsTrue, true};
 ghost use Rattle.macho_fields.specs.Bytes.{bytes_of};
 ghost use Rattle.macho_fields.specs.FirstPlace.{IsLeastPlace};
-ghost use Rattle.macho_sealed.specs.Specials.{is_special_slot as is_special_slot_of, special_slot as special_slot_of, HasSpecialHash, BadSpecial};
+ghost use Rattle.macho_sealed.specs.Directories.{EachDirectory, HasHashesInside, HaveOtherSpecial};
+ghost use Rattle.macho_sealed.specs.Specials.{is_special_slot as is_special_slot_of, special_slot as special_slot_of, HasSpecialHash};
 ghost use Rattle.macho_signature.specs.CodeDirectories.{HasHashes};
 ghost use Rattle.macho_signature.specs.Superblobs.{AreGoodBlobs};
 
 use crate::digest::has_hash;
+use crate::directories::{Directories, have_special};
 use crate::signature::{blob_at, superblob_of};
 use macho_fields::{Bytes, Span};
 use macho_signature::CodeDirectory;
 use macho_signature::cs_blobs::{CSSLOT_ALTERNATE_CODEDIRECTORIES, CSSLOT_CODEDIRECTORY};
 
-// The first blob of a signature in a special slot that the code directory with the bytes `blob` has not, or of
-// which it has another hash.
-pub(crate) fn first_other_special(
-    signature: Bytes,
-    blob: Bytes,
-    directory: CodeDirectory,
-) -> Option<u64>
+// The first blob of a signature in a special slot that a code directory has not, or of which it has another hash.
+pub(crate) fn first_other_special(signature: Bytes, directories: &Directories) -> Option<u64>
     requires blobs { AreGoodBlobs (bytes_of signature) }
-    requires hashes { HasHashes (length (bytes_of blob)) directory }
-    ensures { IsLeastPlace (BadSpecial (bytes_of signature.entry) (bytes_of blob.entry) directory) result }
+    requires hashes { EachDirectory directories.now HasHashesInside }
+    ensures { IsLeastPlace (HaveOtherSpecial (bytes_of signature.entry) directories.now) result }
 {
     let superblob = superblob_of(signature);
     for index in 0..superblob.count {
         let special = blob_at(signature, superblob, index);
         if is_special_slot(special.slot)
-            && !has_special_hash(
-                blob,
-                directory,
+            && !have_special(
+                directories,
                 special.slot,
                 signature.read_part(special.span()),
             )

@@ -1,10 +1,12 @@
-use Rattle.std.proofs.Common.{◌≡◌, List, ℕ, sym, ap, ◌∙◌, subst}
+use Rattle.std.proofs.Common.{◌≡◌, ◌+◌, List, ℕ, refl, sym, ap, ◌∙◌, subst, arith}
 use Rattle.macho_fields.specs.Bytes.{bytes_of}
 use Rattle.macho_fields.specs.Field.{part}
 use Rattle.macho_fields.specs.FirstPlace.{IsLeastPlace}
+use Rattle.macho_fields.specs.declared.rule.Rule.TheVariants as rule
 use Rattle.macho_sealed.specs.Signature.{RepeatedDirectory, BadHash, BreaksDirectoryRepeated}
 use Rattle.macho_sealed.specs.Slack.{IsSlackAt}
 use Rattle.macho_sealed.proofs.Places.{found_in_image}
+use Rattle.macho_sealed.proofs.TakenSlots.{none_repeated}
 use Rattle.macho_signature.proofs.Images.{least_in_signature}
 use Rattle.macho_sealed.proofs.check.check_signature.Goals as goal
 
@@ -25,6 +27,15 @@ judge-requires-2-clause-least c =
     let these = subst (λ (signature : List ℕ). IsLeastPlace (IsSlackAt (bytes_of c.bytes-bytes.result) table.start signature) c.first_slack-slack.result) bytes c.first_slack-slack.ensures in
     found_in_image image table c.requires.table (IsSlackAt image) c.first_slack-slack.result
     (subst (λ (all : List ℕ). IsLeastPlace (IsSlackAt all table.start (part table.start table.len image)) c.first_slack-slack.result) c.bytes-bytes.ensures.bytes these)
+
+pub first_other_hash-hash-requires-clause-apart : goal.first_other_hash-hash-requires-clause-apart
+first_other_hash-hash-requires-clause-apart c =
+    let image = c.args.image.now in
+    let table = c.args.table in
+    let bytes : bytes_of c.slice-signature.result ≡ part table.start table.len image = c.slice-signature.ensures ∙ ap (part table.start table.len) c.bytes-bytes.ensures.bytes in
+    none_repeated (bytes_of c.slice-signature.result)
+    (λ offset repeated. c.in_ok-judge.ensures rule.DirectoryRepeated (table.start + offset) (omega arith)
+    (table, c.requires.table, (offset, refl, subst (λ (these : List ℕ). RepeatedDirectory these offset) bytes repeated)))
 
 pub judge-requires-3-clause-least : goal.judge-requires-3-clause-least
 judge-requires-3-clause-least c =

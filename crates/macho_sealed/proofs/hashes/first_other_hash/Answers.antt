@@ -1,42 +1,38 @@
-use Rattle.std.proofs.Common.{◌≡◌, ◌+◌, List, ℕ, sym, ap, ◌∙◌, subst, arith}
-use Rattle.std.specs.Prelude.{IsSomeAnd}
+use Rattle.std.proofs.Common.{◌+◌, ◌^◌, ◌≤◌, length, sym, subst, arith}
 use Rattle.macho_fields.specs.Bytes.{bytes_of}
 use Rattle.macho_fields.specs.FirstPlace.{IsLeastPlace}
-use Rattle.macho_sealed.specs.Pages.{bytes_in}
-use Rattle.macho_sealed.specs.Signature.{HasOtherHash}
-use Rattle.macho_sealed.proofs.OtherHashes.{Before, one_more_hash, no_more_hash}
-use Rattle.macho_signature.specs.CodeDirectories.{code_directory}
-use Rattle.macho_signature.specs.Signature.{bytes_at}
-use Rattle.macho_signature.specs.Superblobs.{blob_count, blob_span, is_directory_slot}
-use Rattle.macho_signature.specs.declared.superblob.Blob.{Blob}
-use Rattle.macho_signature.specs.declared.superblob.Superblob.{Superblob}
+use Rattle.macho_sealed.specs.Signature.{BadHash}
+use Rattle.macho_sealed.proofs.OtherHashes.{page_first, special_first}
+use Rattle.macho_sealed.proofs.PlacedDirectories.{each_whole, each_inside}
 use Rattle.macho_sealed.proofs.hashes.first_other_hash.Goals as goal
-use Rattle.macho_sealed.proofs.hashes.first_other_hash.Goals.{then-is_directory, else-is_directory}
 
-pub loop-index-preserved : goal.loop-index-preserved
-loop-index-preserved c =
-    let image = bytes_of c.args.image in
-    let start = c.args.start in
+pub first_other_page-page-requires : goal.first_other_page-page-requires
+first_other_page-page-requires c = (
+  c.args.start,
+  omega (arith, c.requires.inside),
+  each_whole (bytes_of c.args.signature) c.directories_of-directories.result c.directories_of-directories.ensures c.args.start c.requires.whole,
+)
+
+pub returns-then-is_some : goal.returns-then-is_some
+returns-then-is_some c =
     let signature = bytes_of c.args.signature in
-    let k = c.loop-index.index in
-    let is = c.blob_at-blob.ensures.blob in
-    let answer = ap (λ (b : Blob). is_directory_slot b.slot) (sym is) ∙ sym c.is_directory.ensures in
-    elim c.if-is_directory.branch [
-      | then-is_directory w ↦
-          let bytes : bytes_of w.slice-directory.result ≡ bytes_at signature k = w.slice-directory.ensures ∙ ap (bytes_in signature) (w.span.ensures ∙ ap blob_span is) in
-          let here = subst (λ (blob : List ℕ). IsLeastPlace (λ place. IsSomeAnd (code_directory blob) (λ directory. HasOtherHash image start signature blob directory place)) w.other_hash.result) bytes w.other_hash.ensures in
-          subst (IsLeastPlace (Before image start signature k (k + 1))) (sym (w.least-is ∙ w.lesser-least.ensures))
-          (one_more_hash image start signature k (answer ∙ w.if-is_directory.true) c.loop-index.least w.other_hash.result c.loop-index.invariant here)
-      | else-is_directory w ↦
-          subst (IsLeastPlace (Before image start signature k (k + 1))) (sym w.least-is)
-          (no_more_hash image start signature k (answer ∙ w.if-is_directory.false) c.loop-index.least c.loop-index.invariant)
-    ]
+    let directories = c.directories_of-directories.result in
+    let are = c.directories_of-directories.ensures in
+    page_first (bytes_of c.args.image) c.args.start signature directories are (each_whole signature directories are c.args.start c.requires.whole)
+    c.first_other_page-page.result (sym c.if-is_some.ensures) c.first_other_page-page.ensures
+
+pub first_other_special-requires-clause-hashes : goal.first_other_special-requires-clause-hashes
+first_other_special-requires-clause-hashes c =
+    each_inside c.directories_of-directories.result c.args.start
+    (each_whole (bytes_of c.args.signature) c.directories_of-directories.result c.directories_of-directories.ensures c.args.start c.requires.whole)
 
 pub returns : goal.returns
 returns c =
     let image = bytes_of c.args.image in
     let start = c.args.start in
     let signature = bytes_of c.args.signature in
-    let k = c.loop-index.index in
-    let count : k ≡ blob_count signature = (let all : k ≡ c.superblob_of-superblob.result.count = omega (arith, c.loop-index-test.false, c.loop-index.auto.index-end) in all ∙ ap (λ (s : Superblob). s.count) c.superblob_of-superblob.ensures) in
-    subst (λ n. IsLeastPlace (Before image start signature k n) c.loop-index.least) count c.loop-index.invariant
+    let directories = c.directories_of-directories.result in
+    let are = c.directories_of-directories.ensures in
+    subst (IsLeastPlace (BadHash image start signature)) (sym c.place_from.ensures)
+    (special_first image start signature directories are (each_whole signature directories are start c.requires.whole)
+    c.first_other_page-page.result (sym c.if-is_some.ensures) c.first_other_page-page.ensures c.first_other_special.result c.first_other_special.ensures)

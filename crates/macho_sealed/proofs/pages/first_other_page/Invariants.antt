@@ -1,7 +1,7 @@
-use Rattle.std.proofs.Common.{◌<◌, ℕ}
-use Rattle.macho_sealed.specs.Pages.{IsOtherPage}
+use Rattle.macho_fields.specs.FirstPlace.{IsLeastPlace}
+use Rattle.macho_sealed.specs.Directories.{HaveOtherBelow}
 use Rattle.macho_sealed.proofs.pages.first_other_page.Given as goal
 
--- the pages before it have their hashes
-abbrev pub invariant-loop-index : goal.invariant-loop-index
-invariant-loop-index l = (j : ℕ) → j < l.index → ¬ IsOtherPage l.image.bytes.now l.blob.bytes.now l.directory j
+-- what is found is the least place of the pages of lesser sizes
+abbrev pub invariant-loop-page_size : goal.invariant-loop-page_size
+invariant-loop-page_size l = IsLeastPlace (HaveOtherBelow l.image.bytes.now l.directories l.page_size) l.least

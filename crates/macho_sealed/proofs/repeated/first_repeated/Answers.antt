@@ -5,7 +5,7 @@ use Rattle.macho_fields.specs.FirstPlace.{IsLeastPlace}
 use Rattle.macho_sealed.specs.Signature.{IsRepeated, RepeatedDirectory}
 use Rattle.macho_sealed.specs.Slots.{slot_number, AreTaken}
 use Rattle.macho_sealed.proofs.Firsts.{first_at, none_more}
-use Rattle.macho_sealed.proofs.Slots.{none_taken, other_kept, one_taken, taken_repeats, free_not_repeats, other_not_repeats}
+use Rattle.macho_sealed.proofs.TakenSlots.{none_taken, other_kept, one_taken, taken_repeats, free_not_repeats, other_not_repeats}
 use Rattle.macho_signature.specs.Superblobs.{blob_at, blob_count, entry_offset, is_directory_slot}
 use Rattle.macho_signature.specs.declared.superblob.Blob.{Blob}
 use Rattle.macho_signature.specs.declared.superblob.Superblob.{Superblob}

@@ -1,7 +1,7 @@
 use Rattle.std.proofs.Common.{◌<◌, ℕ}
-use Rattle.macho_sealed.specs.Specials.{IsOtherSpecial}
+use Rattle.macho_sealed.proofs.SharedSpecials.{LackSpecial}
 use Rattle.macho_sealed.proofs.specials.first_other_special.Given as goal
 
--- the blobs before it have their hashes
+-- all have the hashes of the blobs before it
 abbrev pub invariant-loop-index : goal.invariant-loop-index
-invariant-loop-index l = (j : ℕ) → j < l.index → ¬ IsOtherSpecial l.signature.bytes.now l.blob.bytes.now l.directory j
+invariant-loop-index l = (j : ℕ) → j < l.index → ¬ LackSpecial l.signature.bytes.now l.directories j

@@ -5,9 +5,10 @@ use Rattle.std.proofs.lemmas.Bool.{cases_lt, cases_eq, cases_Bool, false≢true,
 use Rattle.std.proofs.lemmas.Grind.{get_or-set_at}
 use Rattle.std.proofs.lemmas.List.{length-set, get_or-set_other}
 use Rattle.std.proofs.Math.ListN.{set}
-use Rattle.macho_sealed.specs.Signature.{IsRepeated}
+use Rattle.macho_sealed.specs.Directories.{AreApart}
+use Rattle.macho_sealed.specs.Signature.{IsRepeated, RepeatedDirectory}
 use Rattle.macho_sealed.specs.Slots.{slot_number, HasSlot, AreTaken}
-use Rattle.macho_signature.specs.Superblobs.{blob_at, is_directory_slot}
+use Rattle.macho_signature.specs.Superblobs.{blob_at, entry_offset, is_directory_slot}
 
 -- the number of a slot
 pub numbered : (slot : ℕ) → is_directory_slot slot ≡ true
@@ -26,7 +27,7 @@ pub number_fits : (slot : ℕ) → is_directory_slot slot ≡ true → slot_numb
 number_fits slot is = elim (numbered slot is) [ inl main ↦ (let at = main.1 in omega (arith, at)) | inr (low, high, at) ↦ omega (arith, low, high, at) ]
 
 -- which two slots do not share
-same_number : (slot other : ℕ) → is_directory_slot slot ≡ true → is_directory_slot other ≡ true → slot_number slot ≡ slot_number other → slot ≡ other
+pub same_number : (slot other : ℕ) → is_directory_slot slot ≡ true → is_directory_slot other ≡ true → slot_number slot ≡ slot_number other → slot ≡ other
 same_number slot other is also same = elim (numbered slot is) [
   | inl (main, at) ↦ elim (numbered other also) [ inl (none, there) ↦ omega (arith, main, none) | inr (low, high, there) ↦ absurd (omega (arith, at, there, same)) ]
   | inr (low, high, at) ↦ elim (numbered other also) [ inl (none, there) ↦ absurd (omega (arith, at, there, same)) | inr (from, to, there) ↦ omega (arith, low, at, from, there, same) ]
@@ -102,3 +103,7 @@ module _ (signature : List ℕ) (k : ℕ) (taken : List Bool) (are : AreTaken si
 
 pub other_not_repeats : (signature : List ℕ) (k : ℕ) → is_directory_slot (blob_at signature k).slot ≡ false → ¬ IsRepeated signature k
 other_not_repeats signature k other repeats = false≢true (sym other ∙ repeats.0)
+
+-- where no entry is repeated, no two are in one slot
+pub none_repeated : (signature : List ℕ) → ((offset : ℕ) → ¬ RepeatedDirectory signature offset) → AreApart signature
+none_repeated signature none j k before less is same = none (entry_offset k) (k, less, refl, (is, (j, before, same)))
