@@ -1,5 +1,5 @@
 -- Whether a message has a hash can be decided.
-use Rattle.std.proofs.Common.{◌≡◌, ℕ, ◌⊎◌, List, [], ◌∷◌, refl, sym, subst, inl, inr}
+use Rattle.std.proofs.Common.{◌≡◌, ℕ, ◌⊎◌, List, [], ◌∷◌, refl, inl, inr}
 use Rattle.std.proofs.lemmas.Bool.{cases_eq}
 use Rattle.macho_fields.proofs.Decided.{some_or_not, both_or_not, le_or_not}
 use Rattle.macho_sealed.specs.Digests.{digest, bytes_of_digest, HasHash}
@@ -23,13 +23,3 @@ has_hash_or_not hash_type message hash =
 pub special_or_not : (blob : List ℕ) (directory : CodeDirectory) (slot : ℕ) (message : List ℕ) → HasSpecialHash blob directory slot message ⊎ ¬ HasSpecialHash blob directory slot message
 special_or_not blob directory slot message =
     both_or_not (le_or_not slot directory.special_slots) (has_hash_or_not directory.hash_type message (bytes_in blob (special_slot directory slot)))
-
--- by equal messages and hashes
-pub same_hash : (hash_type : ℕ) (message other hash kept : List ℕ) → message ≡ other → hash ≡ kept → HasHash hash_type other kept → HasHash hash_type message hash
-same_hash hash_type message other hash kept same alike has =
-    subst (λ (m : List ℕ). HasHash hash_type m hash) (sym same) (subst (λ (h : List ℕ). HasHash hash_type other h) (sym alike) has)
-
-pub same_special : (blob : List ℕ) (directory : CodeDirectory) (slot number : ℕ) (message other : List ℕ) → slot ≡ number → message ≡ other
-    → HasSpecialHash blob directory number other → HasSpecialHash blob directory slot message
-same_special blob directory slot number message other same alike has =
-    subst (λ n. HasSpecialHash blob directory n message) (sym same) (subst (λ (m : List ℕ). HasSpecialHash blob directory number m) (sym alike) has)

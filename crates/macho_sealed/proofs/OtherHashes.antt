@@ -1,19 +1,17 @@
 -- From the pages and the blobs of which code directories have another hash to the least place of all.
-use Rattle.std.proofs.Common.{◌≡◌, ◌↔◌, ℕ, ◌+◌, ◌^◌, ◌≤◌, ◌<◌, ◌⊎◌, List, length, get_or, true, false, Option, Some, None, subst, arith, inl, inr}
-use Rattle.std.specs.Prelude.{IfSome}
+use Rattle.std.proofs.Common.{◌≡◌, ◌↔◌, ℕ, ◌+◌, ◌≤◌, ◌⊎◌, List, get_or, true, false, Option, Some, None, arith, inl, inr}
 use Rattle.std.specs.Option.{is_some, option_map}
 use Rattle.std.proofs.lemmas.Bool.{true≢false, false≢true}
 use Rattle.macho_fields.specs.Bytes.{bytes_of}
 use Rattle.macho_fields.specs.FirstPlace.{IsLeastPlace}
 use Rattle.macho_fields.proofs.Options.{some_of, of_some}
-use Rattle.macho_sealed.specs.Directories.{EachDirectory, AnyDirectory, AreDirectories, IsWholeBefore, HasOtherPage, HasOtherSpecial, HaveOtherPage, HaveOtherSpecial}
+use Rattle.macho_sealed.specs.Directories.{EachDirectory, AreDirectories, IsWholeBefore, HasOtherPage, HasOtherSpecial, HaveOtherPage, HaveOtherSpecial}
 use Rattle.macho_sealed.specs.Signature.{HasOtherHash, BadHash}
 use Rattle.macho_sealed.specs.declared.directories.Directory.{Directory}
-use Rattle.macho_signature.specs.Superblobs.{blob_count, AreGoodBlobs}
+use Rattle.macho_signature.specs.Superblobs.{blob_count}
 use Rattle.macho_tables.proofs.Items.{least_other}
-use Rattle.macho_tables.proofs.Places.{least_same, least_moved, fits_moved}
-use Rattle.macho_sealed.proofs.PlacedDirectories.{any_gives, any_turned, to_entry, from_entry}
-use Rattle.macho_sealed.proofs.Places.{special_near}
+use Rattle.macho_tables.proofs.Places.{least_same, least_moved}
+use Rattle.macho_sealed.proofs.PlacedDirectories.{any_mapped, to_entry, from_entry}
 use Rattle.macho_sealed.proofs.SharedPages.{page_before}
 
 module _ (image : List ℕ) (start : ℕ) (signature : List ℕ) (directories : List (Option Directory))
@@ -32,10 +30,10 @@ module _ (image : List ℕ) (start : ℕ) (signature : List ℕ) (directories : 
       to : HaveOtherPage image directories place ⊎ OtherSpecial place → BadHash image start signature place
       to (inl page) =
           to_entry signature directories are (λ blob fields. HasOtherHash image start signature blob fields place)
-          (any_turned directories (IsWholeBefore start) whole (HasOtherPage image place) (OtherHash place) (λ one is bad. inl bad) page)
+          (any_mapped directories (HasOtherPage image place) (OtherHash place) (λ one bad. inl bad) page)
       to (inr (offset, at, special)) =
           to_entry signature directories are (λ blob fields. HasOtherHash image start signature blob fields place)
-          (any_turned directories (IsWholeBefore start) whole (HasOtherSpecial signature offset) (OtherHash place) (λ one is bad. inr (offset, at, bad)) special)
+          (any_mapped directories (HasOtherSpecial signature offset) (OtherHash place) (λ one bad. inr (offset, at, bad)) special)
 
       from : BadHash image start signature place → HaveOtherPage image directories place ⊎ OtherSpecial place
       from broken =
@@ -66,11 +64,3 @@ module _ (image : List ℕ) (start : ℕ) (signature : List ℕ) (directories : 
       least_same (λ place. HaveOtherPage image directories place ⊎ OtherSpecial place) (BadHash image start signature) (option_map (λ offset. start + offset) found) split
       (least_other (HaveOtherPage image directories) OtherSpecial (option_map (λ offset. start + offset) found)
       (no_page page is pages) (least_moved (HaveOtherSpecial signature directories) start found least))
-
-  -- and its place fits
-  pub special_fits : AreGoodBlobs signature → start + length signature < 2 ^ 64 → (found : Option ℕ) → IsLeastPlace (HaveOtherSpecial signature directories) found
-      → IfSome found (λ offset. start + offset < 2 ^ 64)
-  special_fits good fits found least =
-      fits_moved (HaveOtherSpecial signature directories) start (length signature) found
-      (λ offset. any_gives directories (IsWholeBefore start) whole (HasOtherSpecial signature offset) (offset < length signature) (λ one is bad. special_near signature good (bytes_of one.blob) one.fields offset bad))
-      fits least

@@ -1,5 +1,5 @@
 -- The code directories of a signature, each at the number of its slot.
-use Rattle.std.proofs.Common.{◌≡◌, ℕ, ◌+◌, ◌<◌, List, length, get_or, Option, None, Some, true, false, refl, sym, ap, ◌∙◌, subst, arith, inl, inr}
+use Rattle.std.proofs.Common.{◌≡◌, ℕ, ◌+◌, ◌<◌, List, get_or, Option, None, Some, true, false, refl, sym, ◌∙◌, subst, arith, inl, inr}
 use Rattle.std.specs.Prelude.{IfSome, IsSomeAnd}
 use Rattle.std.proofs.lemmas.Bool.{cases_lt, cases_eq, false≢true}
 use Rattle.std.proofs.lemmas.Grind.{get_or-set_at}
@@ -32,7 +32,11 @@ module _ (directories : List (Option Directory)) (E : Directory → Type 0) (eac
       let (one, is, here) = some_of P (get_or directories n None) has in
       (n, of_some Q (get_or directories n None) one is (turn one (at_number n one is) here))
 
--- what each has, each has
+-- a fact of one gives another
+pub any_mapped : (directories : List (Option Directory)) (P Q : Directory → Type 0) → ((one : Directory) → P one → Q one) → AnyDirectory directories P → AnyDirectory directories Q
+any_mapped directories P Q turn (n, has) = let (one, is, here) = some_of P (get_or directories n None) has in (n, of_some Q (get_or directories n None) one is (turn one here))
+
+-- and so does a fact of each
 pub each_turned : (directories : List (Option Directory)) (P Q : Directory → Type 0) → ((one : Directory) → P one → Q one) → EachDirectory directories P → EachDirectory directories Q
 each_turned directories P Q turn each n = by (get_or directories n None) (each n)
   where

@@ -1,13 +1,12 @@
 -- The pages of which code directories have another hash, where those with pages of one size are walked together.
 use Rattle.std.proofs.Common.{◌≡◌, ◌↔◌, ℕ, ◌+◌, ◌≤◌, ◌<◌, ◌⊎◌, List, length, get_or, Option, None, Some, sym, ap, ◌∙◌, subst, arith, inl, inr}
-use Rattle.std.specs.Prelude.{IfSome}
 use Rattle.std.proofs.lemmas.Bool.{cases_lt}
 use Rattle.macho_fields.specs.FirstPlace.{IsLeastPlace}
 use Rattle.macho_fields.proofs.Options.{some_of, of_some}
-use Rattle.macho_sealed.specs.Directories.{EachDirectory, AnyDirectory, IsWholeBefore, AreWhole, HasPageSize, HasSlotFor, HasPage, LacksPage, IsOneOfSize, HasOtherPage, HaveOtherPage, HaveOtherOfSize, HaveOtherBelow}
-use Rattle.macho_sealed.specs.Pages.{bytes_in, page_at, page_span, IsOtherPage}
+use Rattle.macho_sealed.specs.Directories.{EachDirectory, AnyDirectory, IsWholeBefore, AreWhole, HasPageSize, IsOneOfSize, HasPage, HasPageOfSize, LacksPageOfSize, HasOtherPage, HasOtherOfSize, HasOtherBelow, HaveOtherPage, HaveOtherOfSize, HaveOtherBelow}
+use Rattle.macho_sealed.specs.Pages.{bytes_in, page_at, page_span}
 use Rattle.macho_sealed.specs.declared.directories.Directory.{Directory}
-use Rattle.macho_sealed.proofs.PlacedDirectories.{at_number, each_turned, any_gives, any_turned}
+use Rattle.macho_sealed.proofs.PlacedDirectories.{at_number, any_gives, any_turned, any_mapped}
 use Rattle.macho_sealed.proofs.Firsts.{first_at, none_at}
 use Rattle.macho_sealed.proofs.PageSpans.{page_inside, page_rises}
 use Rattle.macho_signature.specs.CodeDirectories.{slots_of, HasSlots}
@@ -19,7 +18,7 @@ use Rattle.macho_tables.proofs.Places.{least_same, least_joined}
 
 -- one with pages of this size has not the hash of the page k
 abbrev pub LackPage : List ℕ → List (Option Directory) → ℕ → ℕ → ℕ → Type 0
-LackPage image directories size limit k = AnyDirectory directories (LacksPage size k (bytes_in image (page_span size limit k)))
+LackPage image directories size limit k = AnyDirectory directories (LacksPageOfSize size k (bytes_in image (page_span size limit k)))
 
 -- one has pages of this size, and all have hashes of the same bytes
 pub record IsShared (image : List ℕ) (directories : List (Option Directory)) (size : ℕ) (one : CodeDirectory) : Type 0 where
@@ -29,15 +28,15 @@ pub record IsShared (image : List ℕ) (directories : List (Option Directory)) (
   pub whole : EachDirectory directories (IsWholeBefore one.limit)
 
 pub is_shared : (image : List ℕ) (directories : List (Option Directory)) (size : ℕ) (one : CodeDirectory) → AreWhole image directories → IsOneOfSize directories size one → IsShared image directories size one
-is_shared image directories size one (limit, inside, whole) =
-    any_gives directories (IsWholeBefore limit) whole (λ this. HasPageSize size this × (this.fields ≡ one)) (IsShared image directories size one)
+is_shared image directories size one are =
+    any_gives directories (IsWholeBefore are.limit) are.each (λ this. HasPageSize size this × (this.fields ≡ one)) (IsShared image directories size one)
     (λ this is (same, named).
-    let end : one.limit ≡ limit = ap (λ (f : CodeDirectory). f.limit) (sym named) ∙ is.1 in
+    let end : one.limit ≡ are.limit = ap (λ (f : CodeDirectory). f.limit) (sym named) ∙ is.1 in
     record {
       slots = subst HasSlots named is.0.slots;
       sized = ap (λ (f : CodeDirectory). f.page_size) (sym named) ∙ same;
-      inside = omega (arith, end, inside);
-      whole = subst (λ l. EachDirectory directories (IsWholeBefore l)) (sym end) whole;
+      inside = omega (arith, end, are.inside);
+      whole = subst (λ l. EachDirectory directories (IsWholeBefore l)) (sym end) are.each;
     })
 
 -- so its pages are those of all
@@ -59,14 +58,9 @@ module _ (image : List ℕ) (directories : List (Option Directory)) (limit : ℕ
     count_of_each : (this : Directory) → IsWholeBefore limit this → HasPageSize size this → this.fields.code_slots ≡ slots_of size limit
     count_of_each this is same = is.0.slots.slots ∙ (ap (λ s. slots_of s this.fields.limit) same ∙ ap (slots_of size) is.1)
 
-    -- each has a hash for it
-    pub slots_there : (k : ℕ) → k < slots_of size limit → EachDirectory directories (HasSlotFor size k)
-    slots_there k less =
-        each_turned directories (IsWholeBefore limit) (HasSlotFor size k) (λ this is. (is.0.hashes, λ same. subst (λ n. k < n) (sym (count_of_each this is same)) less)) whole
-
-    pub none_lacks : (k : ℕ) → EachDirectory directories (λ this. HasPageSize size this → HasPage k (bytes_in image (page_span size limit k)) this) → ¬ LackPage image directories size limit k
+    pub none_lacks : (k : ℕ) → EachDirectory directories (HasPageOfSize size k (bytes_in image (page_span size limit k))) → ¬ LackPage image directories size limit k
     none_lacks k each =
-        any_gives directories (λ this. HasPageSize size this → HasPage k (bytes_in image (page_span size limit k)) this) each (LacksPage size k (bytes_in image (page_span size limit k))) ⊥
+        any_gives directories (HasPageOfSize size k (bytes_in image (page_span size limit k))) each (LacksPageOfSize size k (bytes_in image (page_span size limit k))) ⊥
         (λ this has (same, lack). lack (has same))
 
     same_place : (place : ℕ) → AtItem (λ k. (page_span size limit k).start) (slots_of size limit) (LackPage image directories size limit) place ↔ HaveOtherOfSize image directories size place
@@ -74,7 +68,7 @@ module _ (image : List ℕ) (directories : List (Option Directory)) (limit : ℕ
       where
         to : AtItem (λ k. (page_span size limit k).start) (slots_of size limit) (LackPage image directories size limit) place → HaveOtherOfSize image directories size place
         to (k, less, at, lacks) =
-            any_turned directories (IsWholeBefore limit) whole (LacksPage size k (bytes_in image (page_span size limit k))) (λ this. HasPageSize size this × HasOtherPage image place this)
+            any_turned directories (IsWholeBefore limit) whole (LacksPageOfSize size k (bytes_in image (page_span size limit k))) (HasOtherOfSize image size place)
             (λ this is (same, lack). let page = sym (page_of_each this is same k) in (
               same,
               (k, subst (λ n. k < n) (sym (count_of_each this is same)) less, at ∙ ap (λ (s : Span). s.start) page, λ has. lack (subst (λ (s : Span). HasPage k (bytes_in image s) this) (sym page) has)),
@@ -82,13 +76,13 @@ module _ (image : List ℕ) (directories : List (Option Directory)) (limit : ℕ
 
         from : HaveOtherOfSize image directories size place → AtItem (λ k. (page_span size limit k).start) (slots_of size limit) (LackPage image directories size limit) place
         from (n, other) =
-            let (this, found, (same, (k, less, at, bad))) = some_of (λ this. HasPageSize size this × HasOtherPage image place this) (get_or directories n None) other in
+            let (this, found, (same, (k, less, at, bad))) = some_of (HasOtherOfSize image size place) (get_or directories n None) other in
             let is = at_number directories (IsWholeBefore limit) whole n this found in
             let page = page_of_each this is same k in (
               k,
               subst (λ n. k < n) (count_of_each this is same) less,
               at ∙ ap (λ (s : Span). s.start) page,
-              (n, of_some (LacksPage size k (bytes_in image (page_span size limit k))) (get_or directories n None) this found (same, λ has. bad (subst (λ (s : Span). HasPage k (bytes_in image s) this) (sym page) has))),
+              (n, of_some (LacksPageOfSize size k (bytes_in image (page_span size limit k))) (get_or directories n None) this found (same, λ has. bad (subst (λ (s : Span). HasPage k (bytes_in image s) this) (sym page) has))),
             )
 
     -- the first page that one has not is at the least place
@@ -103,55 +97,6 @@ module _ (image : List ℕ) (directories : List (Option Directory)) (limit : ℕ
         least_same (AtItem (λ k. (page_span size limit k).start) (slots_of size limit) (LackPage image directories size limit)) (HaveOtherOfSize image directories size) None same_place
         (none_at (λ n. (page_span size limit n).start) (slots_of size limit) (LackPage image directories size limit) none)
 
-    -- none has pages of this size
-    pub no_size : EachDirectory directories (λ one. ¬ HasPageSize size one) → IsLeastPlace (HaveOtherOfSize image directories size) None
-    no_size each place =
-        any_gives directories (λ one. ¬ HasPageSize size one) each (λ one. HasPageSize size one × HasOtherPage image place one) ⊥ (λ one other (same, bad). other same)
-
-  -- All of them, by the sizes of their pages
-
-  pub no_lesser : IsLeastPlace (HaveOtherBelow image directories 0) None
-  no_lesser place =
-      any_gives directories (IsWholeBefore limit) whole (λ one. (one.fields.page_size < 0) × HasOtherPage image place one) ⊥ (λ one is (less, bad). omega (arith, less))
-
-  pub one_size_more : (size : ℕ) (old found : Option ℕ) → IsLeastPlace (HaveOtherBelow image directories size) old → IsLeastPlace (HaveOtherOfSize image directories size) found
-      → IsLeastPlace (HaveOtherBelow image directories (size + 1)) (lesser old found)
-  one_size_more size old found least here =
-      least_same (λ place. HaveOtherBelow image directories size place ⊎ HaveOtherOfSize image directories size place) (HaveOtherBelow image directories (size + 1)) (lesser old found) same
-      (least_joined (HaveOtherBelow image directories size) (HaveOtherOfSize image directories size) old found least here)
-    where
-      same : (place : ℕ) → (HaveOtherBelow image directories size place ⊎ HaveOtherOfSize image directories size place) ↔ HaveOtherBelow image directories (size + 1) place
-      same place = (to, from)
-        where
-          Below : ℕ → Directory → Type 0
-          Below s one = (one.fields.page_size < s) × HasOtherPage image place one
-
-          Of : Directory → Type 0
-          Of one = HasPageSize size one × HasOtherPage image place one
-
-          to : HaveOtherBelow image directories size place ⊎ HaveOtherOfSize image directories size place → HaveOtherBelow image directories (size + 1) place
-          to (inl below) = any_turned directories (IsWholeBefore limit) whole (Below size) (Below (size + 1)) (λ one is (less, bad). (omega (arith, less), bad)) below
-          to (inr of) = any_turned directories (IsWholeBefore limit) whole Of (Below (size + 1)) (λ one is (at, bad). (omega (arith, at), bad)) of
-
-          from : HaveOtherBelow image directories (size + 1) place → HaveOtherBelow image directories size place ⊎ HaveOtherOfSize image directories size place
-          from (n, other) =
-              let (one, found, (less, bad)) = some_of (Below (size + 1)) (get_or directories n None) other in
-              elim (cases_lt one.fields.page_size size) [
-                | inl below ↦ inl (n, of_some (Below size) (get_or directories n None) one found (below, bad))
-                | inr late ↦ let at : one.fields.page_size ≡ size = omega (arith, less, late) in inr (n, of_some Of (get_or directories n None) one found (at, bad))
-              ]
-
-  -- past the greatest size
-  pub all_sizes : (size : ℕ) → 32 ≤ size → (found : Option ℕ) → IsLeastPlace (HaveOtherBelow image directories size) found → IsLeastPlace (HaveOtherPage image directories) found
-  all_sizes size most found least = least_same (HaveOtherBelow image directories size) (HaveOtherPage image directories) found same least
-    where
-      same : (place : ℕ) → HaveOtherBelow image directories size place ↔ HaveOtherPage image directories place
-      same place = (
-        any_turned directories (IsWholeBefore limit) whole (λ one. (one.fields.page_size < size) × HasOtherPage image place one) (HasOtherPage image place) (λ one is (less, bad). bad),
-        any_turned directories (IsWholeBefore limit) whole (HasOtherPage image place) (λ one. (one.fields.page_size < size) × HasOtherPage image place one)
-            (λ one is bad. let few = is.0.slots.page in (omega (arith, few, most), bad)),
-      )
-
   -- a page is before the limit
   pub page_before : (place : ℕ) → HaveOtherPage image directories place → place ≤ limit
   page_before place =
@@ -160,3 +105,40 @@ module _ (image : List ℕ) (directories : List (Option Directory)) (limit : ℕ
       let inside = page_inside one.fields.page_size one.fields.limit k (subst (λ n. k < n) is.0.slots.slots less) in
       let end = is.1 in
       omega (arith, at, inside, end))
+
+-- All of them, by the sizes of their pages
+
+-- of one size more
+pub one_size_more : (image : List ℕ) (directories : List (Option Directory)) (size : ℕ) (old found : Option ℕ) → IsLeastPlace (HaveOtherBelow image directories size) old
+    → IsLeastPlace (HaveOtherOfSize image directories size) found → IsLeastPlace (HaveOtherBelow image directories (size + 1)) (lesser old found)
+one_size_more image directories size old found least here =
+    least_same (λ place. HaveOtherBelow image directories size place ⊎ HaveOtherOfSize image directories size place) (HaveOtherBelow image directories (size + 1)) (lesser old found) same
+    (least_joined (HaveOtherBelow image directories size) (HaveOtherOfSize image directories size) old found least here)
+  where
+    same : (place : ℕ) → (HaveOtherBelow image directories size place ⊎ HaveOtherOfSize image directories size place) ↔ HaveOtherBelow image directories (size + 1) place
+    same place = (to, from)
+      where
+        to : HaveOtherBelow image directories size place ⊎ HaveOtherOfSize image directories size place → HaveOtherBelow image directories (size + 1) place
+        to (inl below) = any_mapped directories (HasOtherBelow image size place) (HasOtherBelow image (size + 1) place) (λ one (less, bad). (omega (arith, less), bad)) below
+        to (inr of) = any_mapped directories (HasOtherOfSize image size place) (HasOtherBelow image (size + 1) place) (λ one (at, bad). (omega (arith, at), bad)) of
+
+        from : HaveOtherBelow image directories (size + 1) place → HaveOtherBelow image directories size place ⊎ HaveOtherOfSize image directories size place
+        from (n, other) =
+            let (one, found, (less, bad)) = some_of (HasOtherBelow image (size + 1) place) (get_or directories n None) other in
+            elim (cases_lt one.fields.page_size size) [
+              | inl below ↦ inl (n, of_some (HasOtherBelow image size place) (get_or directories n None) one found (below, bad))
+              | inr late ↦
+                  let at : one.fields.page_size ≡ size = omega (arith, less, late) in
+                  inr (n, of_some (HasOtherOfSize image size place) (get_or directories n None) one found (at, bad))
+            ]
+
+-- of all sizes
+pub all_sizes : (image : List ℕ) (directories : List (Option Directory)) → AreWhole image directories → (size : ℕ) → 32 ≤ size → (found : Option ℕ) → IsLeastPlace (HaveOtherBelow image directories size) found
+    → IsLeastPlace (HaveOtherPage image directories) found
+all_sizes image directories are size most found least = least_same (HaveOtherBelow image directories size) (HaveOtherPage image directories) found same least
+  where
+    same : (place : ℕ) → HaveOtherBelow image directories size place ↔ HaveOtherPage image directories place
+    same place = (
+      any_mapped directories (HasOtherBelow image size place) (HasOtherPage image place) (λ one (less, bad). bad),
+      any_turned directories (IsWholeBefore are.limit) are.each (HasOtherPage image place) (HasOtherBelow image size place) (λ one is bad. let few = is.0.slots.page in (omega (arith, few, most), bad)),
+    )

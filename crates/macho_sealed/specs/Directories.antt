@@ -52,9 +52,10 @@ IsWholeBefore limit directory =
     IsSound limit (bytes_of directory.blob) directory.fields × (directory.fields.limit ≡ limit)
 
 -- all are, with one limit in the image
-abbrev pub AreWhole : List ℕ → List (Option Directory) → Type 0
-AreWhole image directories =
-    (limit : ℕ) × (limit ≤ length image) × EachDirectory directories (IsWholeBefore limit)
+pub record AreWhole (image : List ℕ) (directories : List (Option Directory)) : Type 0 where
+  pub limit : ℕ
+  pub inside : limit ≤ length image
+  pub each : EachDirectory directories (IsWholeBefore limit)
 
 -- Their hashes
 
@@ -62,53 +63,68 @@ AreWhole image directories =
 abbrev pub HasHashesInside : Directory → Type 0
 HasHashesInside directory = HasHashes (length (bytes_of directory.blob)) directory.fields
 
--- it has pages of this size
+-- it has pages of this size, and of another
 abbrev pub HasPageSize : ℕ → Directory → Type 0
 HasPageSize page_size directory = directory.fields.page_size ≡ page_size
 
--- a hash for the page k is in its blob, if its pages are of this size
-abbrev pub HasSlotFor : ℕ → ℕ → Directory → Type 0
-HasSlotFor page_size k directory =
-    HasHashesInside directory × (HasPageSize page_size directory → k < directory.fields.code_slots)
-
--- it has the hash of the page k, and that of the message in a special slot
-abbrev pub HasPage : ℕ → List ℕ → Directory → Type 0
-HasPage k page directory =
-    HasHash directory.fields.hash_type page (bytes_in (bytes_of directory.blob) (code_slot directory.fields k))
-
-abbrev pub HasSpecial : ℕ → List ℕ → Directory → Type 0
-HasSpecial slot message directory = HasSpecialHash (bytes_of directory.blob) directory.fields slot message
-
--- it has pages of this size, and not the hash of this page
-abbrev pub LacksPage : ℕ → ℕ → List ℕ → Directory → Type 0
-LacksPage page_size k page directory = HasPageSize page_size directory × ¬ HasPage k page directory
+abbrev pub HasOtherSize : ℕ → Directory → Type 0
+HasOtherSize page_size directory = ¬ HasPageSize page_size directory
 
 -- one of them has these fields, and pages of this size
 abbrev pub IsOneOfSize : List (Option Directory) → ℕ → CodeDirectory → Type 0
 IsOneOfSize directories page_size fields =
     AnyDirectory directories (λ directory. HasPageSize page_size directory × (directory.fields ≡ fields))
 
+-- the hash of a page k of this size lies in its blob
+abbrev pub HasSlotFor : ℕ → ℕ → Directory → Type 0
+HasSlotFor page_size k directory =
+    HasHashesInside directory × (HasPageSize page_size directory → k < directory.fields.code_slots)
+
+-- it has the hash of the page k
+abbrev pub HasPage : ℕ → List ℕ → Directory → Type 0
+HasPage k page directory =
+    HasHash directory.fields.hash_type page (bytes_in (bytes_of directory.blob) (code_slot directory.fields k))
+
+-- if its pages are of this size; they are, and it has not
+abbrev pub HasPageOfSize : ℕ → ℕ → List ℕ → Directory → Type 0
+HasPageOfSize page_size k page directory = HasPageSize page_size directory → HasPage k page directory
+
+abbrev pub LacksPageOfSize : ℕ → ℕ → List ℕ → Directory → Type 0
+LacksPageOfSize page_size k page directory = HasPageSize page_size directory × ¬ HasPage k page directory
+
+-- it has the special slot, and in it the hash of the message; it has not
+abbrev pub HasSpecial : ℕ → List ℕ → Directory → Type 0
+HasSpecial slot message directory = HasSpecialHash (bytes_of directory.blob) directory.fields slot message
+
+abbrev pub LacksSpecial : ℕ → List ℕ → Directory → Type 0
+LacksSpecial slot message directory = ¬ HasSpecial slot message directory
+
 -- What they have other hashes of
 
+-- one has, of a page at a place of the image: of any, of one of this size, and of one of a lesser size
 abbrev pub HasOtherPage : List ℕ → ℕ → Directory → Type 0
 HasOtherPage image place directory = BadPage image (bytes_of directory.blob) directory.fields place
 
--- a page, a page of this size, and one of a lesser size, at a place of the image
+abbrev pub HasOtherOfSize : List ℕ → ℕ → ℕ → Directory → Type 0
+HasOtherOfSize image page_size place directory = HasPageSize page_size directory × HasOtherPage image place directory
+
+abbrev pub HasOtherBelow : List ℕ → ℕ → ℕ → Directory → Type 0
+HasOtherBelow image page_size place directory =
+    (directory.fields.page_size < page_size) × HasOtherPage image place directory
+
+-- of a blob in a special slot, at an offset of the signature
+abbrev pub HasOtherSpecial : List ℕ → ℕ → Directory → Type 0
+HasOtherSpecial signature offset directory = BadSpecial signature (bytes_of directory.blob) directory.fields offset
+
+-- one of them has
 abbrev pub HaveOtherPage : List ℕ → List (Option Directory) → ℕ → Type 0
 HaveOtherPage image directories place = AnyDirectory directories (HasOtherPage image place)
 
 abbrev pub HaveOtherOfSize : List ℕ → List (Option Directory) → ℕ → ℕ → Type 0
-HaveOtherOfSize image directories page_size place =
-    AnyDirectory directories (λ directory. HasPageSize page_size directory × HasOtherPage image place directory)
+HaveOtherOfSize image directories page_size place = AnyDirectory directories (HasOtherOfSize image page_size place)
 
 abbrev pub HaveOtherBelow : List ℕ → List (Option Directory) → ℕ → ℕ → Type 0
-HaveOtherBelow image directories page_size place =
-    AnyDirectory directories
-    (λ directory. (directory.fields.page_size < page_size) × HasOtherPage image place directory)
-
--- a blob in a special slot, at an offset of the signature
-abbrev pub HasOtherSpecial : List ℕ → ℕ → Directory → Type 0
-HasOtherSpecial signature offset directory = BadSpecial signature (bytes_of directory.blob) directory.fields offset
+HaveOtherBelow image directories page_size place = AnyDirectory directories (HasOtherBelow image page_size place)
 
 abbrev pub HaveOtherSpecial : List ℕ → List (Option Directory) → ℕ → Type 0
 HaveOtherSpecial signature directories offset = AnyDirectory directories (HasOtherSpecial signature offset)

@@ -3,13 +3,13 @@
 
 ghost use Rattle.std.specs.Prelude.{◌≡◌, ◌↔◌, ◌<◌, IsTrue, MatchBool, MatchOption, true};
 ghost use Rattle.macho_fields.specs.Bytes.{bytes_of};
-ghost use Rattle.macho_sealed.specs.Directories.{EachDirectory, AnyDirectory, AreApart, IsDirectoryOf, AreDirectories, HasHashesInside, HasPageSize, HasSlotFor, HasPage, LacksPage, HasSpecial, IsOneOfSize};
+ghost use Rattle.macho_sealed.specs.Directories.{EachDirectory, AnyDirectory, AreApart, IsDirectoryOf, AreDirectories, HasHashesInside, HasOtherSize, HasSlotFor, HasPage, HasPageOfSize, LacksPageOfSize, HasSpecial, LacksSpecial, IsOneOfSize};
 ghost use Rattle.macho_sealed.specs.Specials.{is_special_slot};
 ghost use Rattle.macho_signature.specs.Superblobs.{blob_count, AreGoodBlobs};
 
 use crate::digest::has_hash;
 use crate::pages::code_slot;
-use crate::signature::{blob_at, superblob_of};
+use crate::signature::{blob_at, blob_bytes, superblob_of};
 use crate::slots::{DIRECTORY_SLOTS, slot_number};
 use crate::specials::has_special_hash;
 use macho_fields::Bytes;
@@ -36,16 +36,17 @@ pub(crate) fn directories_of(signature: Bytes) -> Directories
     for index in 0..superblob.count {
         let blob = blob_at(signature, superblob, index);
         if blob.is_directory() {
-            directories[slot_number(blob.slot)] = directory_of(signature.slice(blob.span()));
+            directories[slot_number(blob.slot)] = directory_of(blob_bytes(signature, blob));
         }
     }
     directories
 }
 
 // The code directory that a blob is, if it is one.
-fn directory_of(blob: Bytes) -> Option<Directory>
-    ensures { IsDirectoryOf (bytes_of blob.entry) result }
+fn directory_of(bytes: &[u8]) -> Option<Directory>
+    ensures { IsDirectoryOf bytes.now result }
 {
+    let blob = Bytes::new(bytes);
     let fields = CodeDirectory::read(blob)?;
     Some(Directory { blob, fields })
 }
@@ -54,8 +55,8 @@ fn directory_of(blob: Bytes) -> Option<Directory>
 pub(crate) fn have_page(directories: &Directories, page_size: u8, index: u32, page: &[u8]) -> bool
     requires { EachDirectory directories.now (HasSlotFor page_size index) }
     ensures { MatchBool result
-        (EachDirectory directories.now (λ one. HasPageSize page_size one → HasPage index page.now one))
-        (AnyDirectory directories.now (LacksPage page_size index page.now)) }
+        (EachDirectory directories.now (HasPageOfSize page_size index page.now))
+        (AnyDirectory directories.now (LacksPageOfSize page_size index page.now)) }
 {
     for directory in directories {
         if let Some(directory) = directory {
@@ -69,7 +70,8 @@ pub(crate) fn have_page(directories: &Directories, page_size: u8, index: u32, pa
 
 // Whether one has the hash of the page with this index.
 fn has_page(directory: Directory, index: u32, page: &[u8]) -> bool
-    requires { HasHashesInside directory × (index < directory.fields.code_slots) }
+    requires hashes { HasHashesInside directory }
+    requires index { index < directory.fields.code_slots }
     ensures { IsTrue result ↔ HasPage index page.now directory.entry }
 {
     let hash = directory.blob.read_part(code_slot(directory.fields, index));
@@ -82,7 +84,7 @@ pub(crate) fn have_special(directories: &Directories, slot: u32, message: &[u8])
     requires slot { is_special_slot slot ≡ true }
     ensures { MatchBool result
         (EachDirectory directories.now (HasSpecial slot message.now))
-        (AnyDirectory directories.now (λ one. ¬ HasSpecial slot message.now one)) }
+        (AnyDirectory directories.now (LacksSpecial slot message.now)) }
 {
     for directory in directories {
         if let Some(directory) = directory {
@@ -96,7 +98,8 @@ pub(crate) fn have_special(directories: &Directories, slot: u32, message: &[u8])
 
 // One with pages of this size, if there is one.
 pub(crate) fn one_of_size(directories: &Directories, page_size: u8) -> Option<CodeDirectory>
-    ensures { MatchOption result (EachDirectory directories.now (λ one. ¬ HasPageSize page_size one))
+    ensures { MatchOption result
+        (EachDirectory directories.now (HasOtherSize page_size))
         (IsOneOfSize directories.now page_size) }
 {
     for directory in directories {

@@ -16,6 +16,7 @@ use macho_tables::place::lesser;
 
 // The first byte of the first page of an image of which a code directory has another hash. Those with pages of one size
 // share a walk over the image.
+#[tactic(auto, using(crate::proofs::SharedPages::one_size_more))]
 pub(crate) fn first_other_page(image: Bytes, directories: &Directories) -> Option<u64>
     requires { AreWhole (bytes_of image) directories.now }
     ensures { IsLeastPlace (HaveOtherPage (bytes_of image.entry) directories.now) result }

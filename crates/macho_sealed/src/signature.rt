@@ -3,7 +3,7 @@
 
 ghost use Rattle.std.specs.Prelude.{◌≡◌, ◌≤◌, ◌<◌, length};
 ghost use Rattle.macho_fields.specs.Bytes.{bytes_of};
-ghost use Rattle.macho_signature.specs.Superblobs.{superblob_at, blob_at as blob_at_of, blob_count, blob_end, AreGoodBlobs};
+ghost use Rattle.macho_signature.specs.Superblobs.{superblob_at, blob_at as blob_at_of, blob_bytes as blob_bytes_of, blob_count, blob_end, AreGoodBlobs};
 
 use macho_fields::Bytes;
 use macho_signature::{Blob, Superblob};
@@ -27,4 +27,12 @@ pub(crate) fn blob_at(signature: Bytes, superblob: Superblob, index: u32) -> Blo
     superblob
         .blob(signature, index, superblob.index_end())
         .unwrap()
+}
+
+// The bytes of a blob, with its magic number and its length.
+pub(crate) fn blob_bytes<'a>(signature: Bytes<'a>, blob: Blob) -> &'a [u8]
+    requires { blob_end blob ≤ length (bytes_of signature) }
+    ensures { result.now ≡ blob_bytes_of (bytes_of signature.entry) blob }
+{
+    signature.read_part(blob.span())
 }

@@ -11,7 +11,7 @@ ghost use Rattle.macho_signature.specs.Superblobs.{AreGoodBlobs};
 
 use crate::digest::has_hash;
 use crate::directories::{Directories, have_special};
-use crate::signature::{blob_at, superblob_of};
+use crate::signature::{blob_at, blob_bytes, superblob_of};
 use macho_fields::{Bytes, Span};
 use macho_signature::CodeDirectory;
 use macho_signature::cs_blobs::{CSSLOT_ALTERNATE_CODEDIRECTORIES, CSSLOT_CODEDIRECTORY};
@@ -26,11 +26,7 @@ pub(crate) fn first_other_special(signature: Bytes, directories: &Directories) -
     for index in 0..superblob.count {
         let special = blob_at(signature, superblob, index);
         if is_special_slot(special.slot)
-            && !have_special(
-                directories,
-                special.slot,
-                signature.read_part(special.span()),
-            )
+            && !have_special(directories, special.slot, blob_bytes(signature, special))
         {
             return Some(u64::from(special.offset));
         }

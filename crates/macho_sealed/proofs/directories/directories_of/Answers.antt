@@ -1,12 +1,11 @@
-use Rattle.std.proofs.Common.{◌≡◌, ◌+◌, ◌<◌, List, ℕ, true, sym, ap, ◌∙◌, subst}
+use Rattle.std.proofs.Common.{◌≡◌, ◌+◌, ◌<◌, List, ℕ, sym, ap, ◌∙◌, subst}
 use Rattle.std.proofs.Math.ListN.{set}
 use Rattle.macho_fields.specs.Bytes.{bytes_of}
 use Rattle.macho_sealed.specs.Directories.{IsDirectoryOf, AreDirectories}
-use Rattle.macho_sealed.specs.Pages.{bytes_in}
 use Rattle.macho_sealed.specs.Slots.{slot_number}
 use Rattle.macho_sealed.proofs.PlacedDirectories.{none_more_placed, one_more_placed}
 use Rattle.macho_signature.specs.Signature.{bytes_at}
-use Rattle.macho_signature.specs.Superblobs.{blob_at, blob_count, blob_span, is_directory_slot}
+use Rattle.macho_signature.specs.Superblobs.{blob_at, blob_bytes, blob_count, is_directory_slot}
 use Rattle.macho_signature.specs.declared.superblob.Blob.{Blob}
 use Rattle.macho_signature.specs.declared.superblob.Superblob.{Superblob}
 use Rattle.macho_sealed.proofs.directories.directories_of.Goals as goal
@@ -24,7 +23,7 @@ loop-index-preserved c =
       | then-is_directory w ↦
           let below : k < blob_count signature = subst (λ (s : Superblob). k < s.count) c.superblob_of-superblob.ensures c.loop-index-test.true in
           let number : w.slot_number.result ≡ slot_number (blob_at signature k).slot = w.slot_number.ensures.number ∙ ap (λ (b : Blob). slot_number b.slot) is in
-          let bytes : bytes_of w.slice.result ≡ bytes_at signature k = w.slice.ensures ∙ ap (bytes_in signature) (w.span.ensures ∙ ap blob_span is) in
+          let bytes : w.blob_bytes.result.now ≡ bytes_at signature k = w.blob_bytes.ensures ∙ ap (blob_bytes signature) is in
           let found = subst (λ (blob : List ℕ). IsDirectoryOf blob w.directory_of.result) bytes w.directory_of.ensures in
           subst (AreDirectories signature (k + 1)) (sym (w.directories-is ∙ ap (λ n. set directories n w.directory_of.result) number))
           (one_more_placed signature k directories are c.requires.apart below (answer ∙ w.if-is_directory.true) w.directory_of.result found)

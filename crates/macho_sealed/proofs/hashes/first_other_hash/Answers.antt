@@ -1,4 +1,4 @@
-use Rattle.std.proofs.Common.{◌+◌, ◌^◌, ◌≤◌, length, sym, subst, arith}
+use Rattle.std.proofs.Common.{sym, subst, arith}
 use Rattle.macho_fields.specs.Bytes.{bytes_of}
 use Rattle.macho_fields.specs.FirstPlace.{IsLeastPlace}
 use Rattle.macho_sealed.specs.Signature.{BadHash}
@@ -7,11 +7,11 @@ use Rattle.macho_sealed.proofs.PlacedDirectories.{each_whole, each_inside}
 use Rattle.macho_sealed.proofs.hashes.first_other_hash.Goals as goal
 
 pub first_other_page-page-requires : goal.first_other_page-page-requires
-first_other_page-page-requires c = (
-  c.args.start,
-  omega (arith, c.requires.inside),
-  each_whole (bytes_of c.args.signature) c.directories_of-directories.result c.directories_of-directories.ensures c.args.start c.requires.whole,
-)
+first_other_page-page-requires c = record {
+  limit = c.args.start;
+  inside = omega (arith, c.requires.inside);
+  each = each_whole (bytes_of c.args.signature) c.directories_of-directories.result c.directories_of-directories.ensures c.args.start c.requires.whole;
+}
 
 pub returns-then-is_some : goal.returns-then-is_some
 returns-then-is_some c =
