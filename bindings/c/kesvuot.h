@@ -206,8 +206,8 @@ uint32_t kesvuot_verify_linked(const void *file, size_t size, struct kesvuot_ver
  * SEALED.md says what that means, and what it does not: nobody is named who signed, and nothing outside of the file is
  * read.
  * Every file that is OK here is also OK for kesvuot_verify_linked.
- * Memory can run out wherever it can for kesvuot_verify_linked, and nowhere else. Each code directory takes a pass over
- * the bytes that its hashes are of; an image has six at most. */
+ * Memory can run out wherever it can for kesvuot_verify_linked, and nowhere else. The bytes before the signature are
+ * hashed for each code directory; an image has six at most. */
 uint32_t kesvuot_verify_sealed(const void *file, size_t size, struct kesvuot_verdict *verdict);
 
 /* Writes the layout of an accepted file as text, as macho-check prints it: up to `max` bytes, from its first byte on.
