@@ -223,10 +223,9 @@ def judge_mutants(report, count, jobs):
     report.case(profile.wrong % "mutants", breaches, 0)
     report.case("some mutants are accepted, and are not the same", kinds["accepted"] > count // 50, True)
 
-def find_breach(words):
-    """Loads the accepted vectors and then the mutants, up to the first one that breaks the promise. Vectors that should be
-    refused come first: most mistakes show there."""
-    for vector in sorted(read_vectors(profile.vectors), key=lambda vector: vector.wanted == "accepted"):
+def find_breach(words, vectors):
+    """Loads the accepted vectors and then the mutants, up to the first one that breaks the promise."""
+    for vector in vectors:
         if load(vector.data).breach is not None:
             return "the vector '%s'" % vector.name
     set_work(words, read_files(words.folders))
@@ -234,6 +233,14 @@ def find_breach(words):
         if load(mutant(work.seed, number, work.corpus)[0]).breach is not None:
             return "mutant %d of seed %d" % (number, work.seed)
     return None
+
+def find_breaches(words):
+    """Says the first breach by each of the oracles. Vectors that should be refused come first: most mistakes show there."""
+    global oracle  # pylint: disable=global-statement
+    vectors = sorted(read_vectors(profile.vectors), key=lambda vector: vector.wanted == "accepted")
+    for path in words.oracles:
+        oracle = load_module(path)
+        print("the first breach: %s" % find_breach(words, vectors), file=sys.stderr)
 
 def set_work(words, files):
     """Sets what mutants are made of: the files and vectors with tables of which the oracle accepts the others."""
@@ -253,15 +260,16 @@ def main():
     parser.add_argument("--jobs", type=int, default=2, help="how many processes; 2 otherwise")
     parser.add_argument("--keep", default=os.path.join(tempfile.gettempdir(), "macho-dyld-breaches"),
                         help="the folder for files that break the promise")
-    parser.add_argument("--oracle", default=os.path.join(TOP, "tests", "oracle.py"), help="another oracle")
-    parser.add_argument("--first", action="store_true", help="only the first breach is looked for")
+    parser.add_argument("--first", dest="oracles", metavar="ORACLE", nargs="+",
+                        help="only the first breach is looked for, by each of these oracles")
     parser.add_argument("folders", nargs="*", help="folders of other files, which are judged and mutated as well")
     words = parser.parse_args()
     began = time.monotonic()
-    oracle, profile = load_module(words.oracle), PROFILES[words.profile]
-    if words.first:
-        print("the first breach: %s" % find_breach(words), file=sys.stderr)
+    profile = PROFILES[words.profile]
+    if words.oracles:
+        find_breaches(words)
         return
+    oracle = load_module(os.path.join(TOP, "tests", "oracle.py"))
     report = Report(words.keep)
     files = read_files(words.folders)
     set_work(words, files)
