@@ -2,10 +2,12 @@
 
 from __future__ import annotations
 
-from typing import Dict, List, NamedTuple, Optional, Tuple
+import re
+from typing import Dict, List, NamedTuple
 
 from ._names import count_text
-from ._structures import number_in
+from ._parts import matches, walk_commands
+from ._structures import number_in, size_of
 from ._teller import Story, Teller
 from .constants import (
     LC_ATOM_INFO, LC_FUNCTION_VARIANT_FIXUPS, LC_FUNCTION_VARIANTS, LC_FVMFILE, LC_IDENT, LC_IDFVMLIB, LC_LINKER_OPTION,
@@ -30,26 +32,27 @@ REGISTERS: Dict[int, Dict[int, Registers]] = {
 
 
 class Held(NamedTuple):
-    """A command whose contents the linked profile judges: how many bytes its structure has; the offset of the field
-    that has the offset of its name, or 0; and of a range that it names the offsets of two fields, its start and how
-    many items it has, and how many bytes an item has."""
+    """A command whose contents the linked profile judges: how many bytes its structure has; whether the word after
+    cmdsize is the offset of its name; and how many bytes an item has of the range whose offset and count are the two
+    words after cmdsize, or 0 if it names none."""
 
     size: int
-    name: int = 0
-    span: Optional[Tuple[int, int, int]] = None
+    has_name: bool = False
+    item: int = 0
 
 
 HELD: Dict[int, Held] = {
-    LC_SYMSEG: Held(16, span=(8, 12, 1)), LC_LOADFVMLIB: Held(20, 8), LC_IDFVMLIB: Held(20, 8), LC_IDENT: Held(8),
-    LC_FVMFILE: Held(16, 8), LC_PREPAGE: Held(8), LC_PREBOUND_DYLIB: Held(20, 8), LC_ROUTINES: Held(40),
-    LC_SUB_FRAMEWORK: Held(12, 8), LC_SUB_UMBRELLA: Held(12, 8), LC_SUB_CLIENT: Held(12, 8),
-    LC_SUB_LIBRARY: Held(12, 8), LC_TWOLEVEL_HINTS: Held(16, span=(8, 12, 4)), LC_PREBIND_CKSUM: Held(12),
-    LC_ROUTINES_64: Held(72),
-    LC_VERSION_MIN_MACOSX: Held(16), LC_VERSION_MIN_IPHONEOS: Held(16), LC_SOURCE_VERSION: Held(16),
-    LC_LINKER_OPTION: Held(12), LC_VERSION_MIN_TVOS: Held(16), LC_VERSION_MIN_WATCHOS: Held(16),
-    LC_ATOM_INFO: Held(16, span=(8, 12, 1)), LC_FUNCTION_VARIANTS: Held(16, span=(8, 12, 1)),
-    LC_FUNCTION_VARIANT_FIXUPS: Held(16, span=(8, 12, 1)), LC_TARGET_TRIPLE: Held(12, 8)}
+    **dict.fromkeys((LC_LOADFVMLIB, LC_IDFVMLIB, LC_PREBOUND_DYLIB), Held(20, has_name=True)),
+    LC_FVMFILE: Held(16, has_name=True),
+    **dict.fromkeys((LC_SUB_FRAMEWORK, LC_SUB_UMBRELLA, LC_SUB_CLIENT, LC_SUB_LIBRARY, LC_TARGET_TRIPLE),
+                    Held(12, has_name=True)),
+    **dict.fromkeys((LC_SYMSEG, LC_ATOM_INFO, LC_FUNCTION_VARIANTS, LC_FUNCTION_VARIANT_FIXUPS), Held(16, item=1)),
+    LC_TWOLEVEL_HINTS: Held(16, item=4), **dict.fromkeys((LC_IDENT, LC_PREPAGE), Held(8)),
+    LC_ROUTINES: Held(40), LC_ROUTINES_64: Held(72), **dict.fromkeys((LC_PREBIND_CKSUM, LC_LINKER_OPTION), Held(12)),
+    **dict.fromkeys((LC_VERSION_MIN_MACOSX, LC_VERSION_MIN_IPHONEOS, LC_VERSION_MIN_TVOS, LC_VERSION_MIN_WATCHOS,
+                     LC_SOURCE_VERSION), Held(16))}
 ROUTINES = (LC_ROUTINES, LC_ROUTINES_64)
+NONZERO = re.compile(rb"[^\0]+")
 
 
 class State(NamedTuple):
@@ -93,8 +96,8 @@ def thread(it: Teller) -> Story:
 
 def _registers(it: Teller, state: State, known: Registers) -> Story:
     if state.count != known.words:
-        return it.story(f"the state of flavor {state.flavor} in {it.at} has {count_text(state.count, 'word')}, and one has "
-                        f"{known.words}.")
+        return it.story(f"the state of flavor {state.flavor} in {it.at} has {count_text(state.count, 'word')}, and one "
+                        f"has {known.words}.")
     inner = tuple(int.from_bytes(state.words[at:at + 4], "little") for at in (0, 4))
     if state.flavor == X86_THREAD_STATE and inner != (X86_THREAD_STATE64, REGISTERS[X86_64][X86_THREAD_STATE64].words):
         return it.story(f"the state of flavor {state.flavor} in {it.at} has one of flavor {inner[0]} with "
@@ -122,9 +125,9 @@ class Content:
                 or self.routine())
 
     def name(self) -> str:
-        if not self.held.name:
+        if not self.held.has_name:
             return ""
-        start = self.word(self.held.name)
+        start = self.word(8)
         if start < self.held.size:
             return f"has the offset {start} of its name, inside its structure of {self.held.size} bytes"
         end = self.data.find(0, start)
@@ -134,13 +137,11 @@ class Content:
         return ""
 
     def span(self) -> str:
-        if not self.held.span:
+        size, whole = self.word(12) * self.held.item, self.it.case.slice.size
+        end = self.word(8) + size
+        if size == 0 or end <= whole:
             return ""
-        start, items, width = self.held.span
-        end = self.word(start) + self.word(items) * width
-        if self.word(items) == 0 or end <= self.it.case.slice.size:
-            return ""
-        return f"names bytes that end at {end:#x}, past the end of {self.it.whole}, {self.it.case.slice.size:#x}"
+        return f"names bytes that end at {end:#x}, past the end of {self.it.whole}, {whole:#x}"
 
     def bits(self) -> str:
         """Those of an LC_PREBOUND_DYLIB: one for each module of the library."""
@@ -175,9 +176,11 @@ class Content:
         return ""
 
     def stray(self) -> str:
-        for offset, byte in enumerate(self.data):
-            if byte and not any(start <= offset < end for start, end in self.claimed):
-                return f"has the byte {byte:02x} at offset {offset}, which is in none of its parts"
+        place = 0
+        for start, end in (*sorted(self.claimed), (len(self.data), 0)):
+            for offset, _ in matches(NONZERO, memoryview(self.data), (place, start)):
+                return f"has the byte {self.data[offset]:02x} at offset {offset}, which is in none of its parts"
+            place = max(place, end)
         return ""
 
     def routine(self) -> str:
@@ -189,12 +192,12 @@ class Content:
         return f"calls the address {address:#x}, where no executable segment has a byte of the file"
 
     def is_second(self) -> bool:
-        data, place = self.it.case.data, self.it.case.slice.start + 32
-        while place < self.it.at_part.start:
-            if number_in(data[place:], "load_command", "cmd") in ROUTINES:
-                return True
-            place += number_in(data[place:], "load_command", "cmdsize")
-        return False
+        holder = self.it.case.slice
+        image = self.it.case.data[holder.start:holder.start + holder.size]
+        ncmds, size = (number_in(image, "mach_header_64", field) for field in ("ncmds", "sizeofcmds"))
+        commands = walk_commands(image, ncmds, size_of("mach_header_64") + size).commands
+        first = next(command.place for command in commands if command.cmd in ROUTINES)
+        return holder.start + first < self.it.at_part.start
 
 
 def command_content(it: Teller) -> Story:

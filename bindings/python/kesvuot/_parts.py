@@ -171,7 +171,7 @@ def image_parts(data: memoryview, part: Part, accepted: Optional[Image] = None,
     if len(image) < HEADER.size:
         return
     ncmds, sizeofcmds = HEADER.unpack_from(image)[4:6]
-    walk = Walk(accepted.commands, True) if accepted else _walk(image, ncmds, HEADER.size + sizeofcmds)
+    walk = Walk(accepted.commands, True) if accepted else walk_commands(image, ncmds, HEADER.size + sizeofcmds)
     yield Part("headers", "headers", 2, part.start, HEADER.size + sizeofcmds, part.slice, part.start)
     yield Part("header", "mach_header_64", 3, part.start, HEADER.size, part.slice, part.start)
     end = HEADER.size
@@ -192,7 +192,7 @@ def image_parts(data: memoryview, part: Part, accepted: Optional[Image] = None,
         yield Part("gap", "after the last command", 3, part.start + end, HEADER.size + sizeofcmds - end, part.slice)
 
 
-def _walk(image: memoryview, ncmds: int, end: int) -> Walk:
+def walk_commands(image: memoryview, ncmds: int, end: int) -> Walk:
     """The commands as far as each has a cmdsize that can be, and lies among the commands and in the image."""
     commands: List[Step] = []
     place, end, no_name = HEADER.size, min(end, len(image)), image[:0]
@@ -373,7 +373,7 @@ def _runs(data: memoryview, piece: Range, holder: Optional[int], is_code: bool) 
     least = max(NEAR, (piece[1] - piece[0]) // RUNS)
     wanted = re.compile(rb"[^\0\x90]+" if is_code else rb"[^\0]+")
     start = end = count = 0
-    for first, last in _matches(wanted, data, piece):
+    for first, last in matches(wanted, data, piece):
         if count and first - end >= least:
             yield _run(start, end, count, holder)
             count = 0
@@ -387,7 +387,7 @@ def _run(start: int, end: int, count: int, holder: Optional[int]) -> Part:
                 end - start, holder)
 
 
-def _matches(wanted: re.Pattern[bytes], data: memoryview, piece: Range) -> Iterator[Range]:
+def matches(wanted: re.Pattern[bytes], data: memoryview, piece: Range) -> Iterator[Range]:
     """Where a pattern of nonzero bytes matches. Zeros are passed over fast."""
     for start in range(piece[0], piece[1], PIECE):
         some = bytes(data[start:min(start + PIECE, piece[1])])
