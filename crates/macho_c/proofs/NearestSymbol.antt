@@ -10,7 +10,7 @@ use Rattle.std.proofs.lemmas.Option.{slice_get_within, same_Some}
 use Rattle.macho_image.specs.declared.symbol.Symbol.{Symbol}
 use Rattle.macho_rules.proofs.Mapped.{filtered}
 use Rattle.macho_rows.specs.Status.{KESVUOT_OK, KESVUOT_NONE}
-use Rattle.macho_rows.specs.SymbolIndex.{is_address, has_address, addresses, sort_key, IsIndex, is_at_or_before, BeginsPast, IsLast, IsFound, IsNearest, HasNoneBefore}
+use Rattle.macho_rows.specs.SymbolIndex.{is_address, has_address, addresses, sort_key, IsIndex, is_at_or_before, BeginsPast, IsLastSymbol, IsFound, IsNearest, HasNoneBefore}
 use Rattle.macho_rows.specs.Symbols.{symbol_row}
 use Rattle.macho_rows.specs.declared.symbols.KesvuotSymbol.{KesvuotSymbol}
 
@@ -64,7 +64,7 @@ module _ (symbols : List Symbol) (few : length symbols ≤ 2 ^ 32) (index : List
         | inr (same, order) ↦ omega (arith, more, same)
       ]
 
-  pub nearest : (position : ℕ) (s : Symbol) → IsLast symbols index address position s → IsNearest symbols address (slice_index index position) s
+  pub nearest : (position : ℕ) (s : Symbol) → IsLastSymbol symbols index address position s → IsNearest symbols address (slice_index index position) s
   nearest position s last = record {
     is = last.is;
     has = let (t, at, has) = entry position last.within in subst (λ (u : Symbol). is_address u.kind ≡ true) (same_Some t s (sym at ∙ last.is)) has;

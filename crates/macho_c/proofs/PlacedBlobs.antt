@@ -7,71 +7,21 @@ use Rattle.std.proofs.lemmas.List.{length-map}
 use Rattle.macho_fields.specs.Field.{part}
 use Rattle.macho_fields.specs.Symbol.{IsOutside}
 use Rattle.macho_fields.specs.declared.header.loader.TheConstants as loader
-use Rattle.macho_signature.specs.Superblobs.{big_word, superblob_at, blob_count, entry_offset, blob_at, blob_end, least_offset, HasNoSuperblob, IsMisplacedBlob, AreGoodBlobs}
+use Rattle.macho_signature.specs.Superblobs.{big_word, superblob_at, blob_count, entry_offset, blob_at, blob_end, least_offset, has_superblob, is_placed, HasNoSuperblob, IsMisplacedBlob, AreGoodBlobs}
 use Rattle.macho_signature.specs.declared.cs_blobs.TheConstants as cs
 use Rattle.macho_signature.specs.declared.superblob.Blob.{Blob}
 use Rattle.macho_signature.specs.declared.superblob.Superblob.{Superblob}
-use Rattle.macho_c.specs.Blobs.{has_superblob, is_placed, placed_blobs, blobs_from, blob_row, blobs_left, IsFirstPlaced, HasAllBlobs}
+use Rattle.macho_c.specs.Blobs.{placed_blobs, blobs_from, blob_row, blobs_left, IsFirstPlaced, HasAllBlobs}
 use Rattle.macho_rows.specs.Cursor.{start}
 use Rattle.macho_rows.specs.Image.{ShowsUnbroken, image_in, only}
 use Rattle.macho_rows.specs.Linkedit.{dataoff, datasize}
 use Rattle.macho_rows.specs.Spans.{part_or_none}
 use Rattle.macho_c.specs.declared.blobs.KesvuotBlob.{KesvuotBlob}
 use Rattle.macho_rows.specs.declared.image.KesvuotImage.{KesvuotImage}
-use Rattle.macho_signature.proofs.Signed.{blob_fits, past_index}
+use Rattle.macho_signature.proofs.Signed.{superblob_inside, blob_fits, past_index}
+use Rattle.macho_signature.proofs.SuperblobTests.{first_false, superblob_true, placed_true, placed_false}
 use Rattle.macho_rows.proofs.AllSymbols.{unbroken}
 use Rattle.macho_c.proofs.NamedData.{nothing, named, data_inside, whole, cases_fits}
-
-both_true : (a b : Bool) → a ≡ true → b ≡ true → (a && b) ≡ true
-both_true true b is and = and
-both_true false b is and = is
-
-later_false : (a b : Bool) → b ≡ false → (a && b) ≡ false
-later_false true b is = is
-later_false false b is = refl
-
-first_false : (a b : Bool) → a ≡ false → (a && b) ≡ false
-first_false false b is = refl
-first_false true b is = absurd (cc)
-
-not_below : (a b : ℕ) → ¬ (b < a) → nat_le a b ≡ true
-not_below a b none = elim (cases_lt b a) [ inl below ↦ absurd (none below) | inr fits ↦ le-leb a b fits ]
-
--- the tests of a blob
-placed_true : (superblob : Superblob) (least : ℕ) (blob : Blob) → ¬ IsMisplacedBlob superblob least blob → is_placed superblob least blob ≡ true
-placed_true superblob least blob good =
-    both_true _ _ (not_below least blob.offset (λ bad. good (inl bad)))
-    (both_true _ _ (not_below (blob.offset + cs.CS_GENERIC_BLOB_SIZE) superblob.length (λ bad. good (inr (inl bad))))
-    (both_true _ _ (not_below cs.CS_GENERIC_BLOB_SIZE blob.length (λ bad. good (inr (inr (inl bad)))))
-    (not_below (blob_end blob) superblob.length (λ bad. good (inr (inr (inr bad)))))))
-
-placed_false : (superblob : Superblob) (least : ℕ) (blob : Blob) → IsMisplacedBlob superblob least blob → is_placed superblob least blob ≡ false
-placed_false superblob least blob = by (nat_le least blob.offset) (nat_le (blob.offset + cs.CS_GENERIC_BLOB_SIZE) superblob.length) (nat_le cs.CS_GENERIC_BLOB_SIZE blob.length) (nat_le (blob_end blob) superblob.length)
-    (lt-leb least blob.offset) (lt-leb (blob.offset + cs.CS_GENERIC_BLOB_SIZE) superblob.length) (lt-leb cs.CS_GENERIC_BLOB_SIZE blob.length) (lt-leb (blob_end blob) superblob.length)
-  where
-    by : (a b c d : Bool) → (blob.offset < least → a ≡ false) → (superblob.length < blob.offset + cs.CS_GENERIC_BLOB_SIZE → b ≡ false) → (blob.length < cs.CS_GENERIC_BLOB_SIZE → c ≡ false)
-        → (superblob.length < blob_end blob → d ≡ false) → IsMisplacedBlob superblob least blob → (a && (b && (c && d))) ≡ false
-    by a b c d one two three four (inl bad) = first_false a (b && (c && d)) (one bad)
-    by a b c d one two three four (inr (inl bad)) = later_false a (b && (c && d)) (first_false b (c && d) (two bad))
-    by a b c d one two three four (inr (inr (inl bad))) = later_false a (b && (c && d)) (later_false b (c && d) (first_false c d (three bad)))
-    by a b c d one two three four (inr (inr (inr bad))) = later_false a (b && (c && d)) (later_false b (c && d) (later_false c d (four bad)))
-
--- that of a superblob
-superblob_true : (signature : List ℕ) → ¬ HasNoSuperblob signature → has_superblob signature ≡ true
-superblob_true signature whole =
-    both_true _ _ (not_below cs.CS_SUPER_BLOB_SIZE (length signature) (λ bad. whole (inl bad)))
-    (both_true _ _ magic
-    (both_true _ _ (not_below (superblob_at signature).length (length signature) (λ bad. whole (inr (inr (inl bad)))))
-    (not_below (entry_offset (blob_count signature)) (superblob_at signature).length (λ bad. whole (inr (inr (inr bad)))))))
-  where
-    magic : (big_word signature 0 == cs.CSMAGIC_EMBEDDED_SIGNATURE) ≡ true
-    magic = elim (cases_eq (big_word signature 0) cs.CSMAGIC_EMBEDDED_SIGNATURE) [
-      | inl is ↦ eq-eqb (big_word signature 0) cs.CSMAGIC_EMBEDDED_SIGNATURE is
-      | inr other ↦ absurd (whole (inr (inl other)))
-    ]
-
-superblob_inside : (signature : List ℕ) → ¬ HasNoSuperblob signature → (superblob_at signature).length ≤ length signature
-superblob_inside signature whole = elim (cases_lt (length signature) (superblob_at signature).length) [ inl past ↦ absurd (whole (inr (inr (inl past)))) | inr inside ↦ inside ]
 
 -- no bytes have none
 no_blobs : (signature : List ℕ) → length signature ≡ 0 → blobs_from signature 0 0 ≡ []

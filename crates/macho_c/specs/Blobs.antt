@@ -1,33 +1,17 @@
 -- The blobs of the code signature of an image, by its first LC_CODE_SIGNATURE. (cs_blobs.h: CS_SuperBlob,
 -- CS_BlobIndex, CS_GenericBlob)
-use Rattle.std.specs.Prelude.{◌≡◌, ℕ, zero, suc, ◌+◌, ◌-◌, ◌==◌, ◌&&◌, ◌≤◌, ◌<◌, nat_le, max, List, [], ◌∷◌, length, map, Bool, Option, MatchOption, if◌then◌else◌}
+use Rattle.std.specs.Prelude.{◌≡◌, ℕ, zero, suc, ◌+◌, ◌-◌, ◌≤◌, ◌<◌, max, List, [], ◌∷◌, length, map, Option, MatchOption, if◌then◌else◌}
 use Rattle.macho_fields.specs.Field.{part}
 use Rattle.macho_fields.specs.declared.header.loader.TheConstants as loader
-use Rattle.macho_signature.specs.Superblobs.{big_word, superblob_at, blob_count, entry_offset, blob_at, blob_end, AreGoodBlobs}
+use Rattle.macho_signature.specs.Superblobs.{big_word, superblob_at, blob_count, entry_offset, blob_at, blob_end, has_superblob, is_placed, AreGoodBlobs}
 use Rattle.macho_signature.specs.declared.cs_blobs.TheConstants as cs
 use Rattle.macho_signature.specs.declared.superblob.Blob.{Blob}
-use Rattle.macho_signature.specs.declared.superblob.Superblob.{Superblob}
 use Rattle.macho_rows.specs.Cursor.{begun}
 use Rattle.macho_rows.specs.Image.{only}
 use Rattle.macho_rows.specs.Linkedit.{dataoff, datasize, named_data}
 use Rattle.macho_rows.specs.Spans.{part_or_none, span_of}
 use Rattle.macho_c.specs.declared.blobs.KesvuotBlob.{KesvuotBlob}
 use Rattle.macho_rows.specs.declared.cursor.KesvuotCursor.{KesvuotCursor}
-
--- the signature begins with a superblob that ends in it, and whose index ends in that
-abbrev pub has_superblob : List ℕ → Bool
-has_superblob signature =
-    nat_le cs.CS_SUPER_BLOB_SIZE (length signature)
-    && (big_word signature 0 == cs.CSMAGIC_EMBEDDED_SIGNATURE
-    && (nat_le (superblob_at signature).length (length signature)
-    && nat_le (entry_offset (blob_count signature)) (superblob_at signature).length))
-
--- a blob begins at the least offset or past it, has room for its magic and length, and ends in the superblob
-abbrev pub is_placed : Superblob → ℕ → Blob → Bool
-is_placed superblob least blob =
-    nat_le least blob.offset
-    && (nat_le (blob.offset + cs.CS_GENERIC_BLOB_SIZE) superblob.length
-    && (nat_le cs.CS_GENERIC_BLOB_SIZE blob.length && nat_le (blob_end blob) superblob.length))
 
 -- the blobs from the entry k on, up to so many, each past the index and the one before it, up to the first that
 -- is not

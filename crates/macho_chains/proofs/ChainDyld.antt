@@ -8,7 +8,7 @@ use Rattle.macho_fields.specs.Rules as layout
 use Rattle.macho_fields.specs.Symbol.{table_at, tables_of}
 use Rattle.macho_fields.specs.declared.header.loader.TheConstants as loader
 use Rattle.macho_fields.proofs.Options.{some_of, of_some}
-use Rattle.macho_chains.specs.ChainDyld.{IsMapped, ChainState, IsChainTableAt, IsChainSafe, IsChainedSafely, ChainReaches}
+use Rattle.macho_chains.specs.ChainDyld.{IsInMemory, ChainState, IsChainTableAt, IsChainSafe, IsChainedSafely, ChainReaches}
 use Rattle.macho_chains.specs.ChainHeader.{chain_header}
 use Rattle.macho_chains.specs.Chains.{chained_fixups}
 use Rattle.macho_tables.specs.Memory.{IsKept}
@@ -46,13 +46,13 @@ module _ (image : List ℕ) (homes : (place : ℕ) → ¬ BreaksTableHome image 
       let (found, is) = header_there image kept table command is_named is_table in (found, chains_good image kept table command is_named is_table found is)
 
   -- the loader that begins with memory as it was mapped
-  begins : (first : ChainState) → IsMapped image first.memory → first.segment ≡ 0 → first.page ≡ 0 → first.next ≡ None
+  begins : (first : ChainState) → IsInMemory image first.memory → first.segment ≡ 0 → first.page ≡ 0 → first.next ≡ None
       → Good image unbroken table.0 home chains header.0 header.1 same 0 first
   begins first mapped segment page next =
       (0, rw (segment, page, next) (come_first image chains header.0 first.memory mapped), rw (segment, page) (moved_first image chains header.0))
 
   -- is safe
-  followed : (n : ℕ) (first last : ChainState) → IsMapped image first.memory → first.segment ≡ 0 → first.page ≡ 0 → first.next ≡ None → ChainReaches image home first n last
+  followed : (n : ℕ) (first last : ChainState) → IsInMemory image first.memory → first.segment ≡ 0 → first.page ≡ 0 → first.next ≡ None → ChainReaches image home first n last
       → IsSomeAnd (chain_header chains) (λ h. IsChainSafe image chains h home n last)
   followed n first last mapped segment page next reached =
       let come = reaches image unbroken table.0 home chains header.0 header.1 same n 0 first last (begins first mapped segment page next) reached in

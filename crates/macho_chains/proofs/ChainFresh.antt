@@ -14,7 +14,7 @@ use Rattle.macho_rules.proofs.Judged.{opened_commands}
 use Rattle.macho_rules.proofs.Verdicts.{unbroken_opened}
 use Rattle.macho_spans.specs.Span.{Covers}
 use Rattle.macho_spans.specs.declared.span.Span.{Span}
-use Rattle.macho_chains.specs.ChainDyld.{IsMapped}
+use Rattle.macho_chains.specs.ChainDyld.{IsInMemory}
 use Rattle.macho_chains.specs.ChainPointers.{IsRoomTo}
 use Rattle.macho_tables.specs.Homes.{bytes_of_segment}
 use Rattle.macho_tables.specs.Limits.{room}
@@ -35,7 +35,7 @@ room_whole image s end to some = elim (cases_Bool (is_writable image s)) [
 ]
 
 -- memory that has been mapped is
-pub fresh_first : (image : List ℕ) (memory : ℕ → ℕ) → IsMapped image memory → IsFresh image memory 0 0
+pub fresh_first : (image : List ℕ) (memory : ℕ → ℕ) → IsInMemory image memory → IsFresh image memory 0 0
 fresh_first image memory mapped j s end k at to below later =
     let (can, inside) = room_whole image s end to (omega (arith, below)) in
     let byte : Span = record { start = fileoff image s + k; len = 1 } in

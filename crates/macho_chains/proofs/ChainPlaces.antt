@@ -5,7 +5,7 @@ use Rattle.macho_fields.specs.Layers.{NothingBreaks}
 use Rattle.macho_fields.specs.Rules as layout
 use Rattle.macho_fields.specs.Segment.{all_segments, vmaddr}
 use Rattle.macho_spans.specs.Span.{Covers}
-use Rattle.macho_chains.specs.ChainDyld.{IsMapped}
+use Rattle.macho_chains.specs.ChainDyld.{IsInMemory}
 use Rattle.macho_chains.specs.ChainPointers.{pointer_at, first_offset, ComesTo, HasChain, BreaksChainSlot}
 use Rattle.macho_chains.specs.ChainStarts.{starts_of, BreaksChainStarts}
 use Rattle.macho_tables.specs.Memory.{IsKept}
@@ -63,7 +63,7 @@ between_none chains header segment = each (starts_of chains header segment)
     each None = tt
     each (Some starts) = omega arith
 
-pub come_first : (image chains : List ℕ) (header : ChainHeader) (memory : ℕ → ℕ) → IsMapped image memory → HasCome image chains header memory 0 0 None 0
+pub come_first : (image chains : List ℕ) (header : ChainHeader) (memory : ℕ → ℕ) → IsInMemory image memory → HasCome image chains header memory 0 0 None 0
 come_first image chains header memory mapped = record {
   kept = λ s k has is_mapped constant plain below clear. mapped s k has is_mapped plain below clear;
   few = omega arith;

@@ -2,13 +2,13 @@
 -- memory, writes each pointer where it read it, and checks nothing. Memory has a byte for each address, and is
 -- that of an image loaded at its base, which is where the segments named __TEXT are (header-home).
 -- (mach-o/fixup-chains.h)
-use Rattle.std.specs.Prelude.{◌≡◌, ◌≢◌, ℕ, zero, suc, ◌+◌, ◌*◌, ◌≤◌, ◌<◌, ◌==◌, ◌⊎◌, List, length, All, Any, Contains, Option, Some, None, IfSome, IsSomeAnd, true, false, slice_get, slice_index, if◌then◌else◌}
+use Rattle.std.specs.Prelude.{◌≡◌, ◌≢◌, ℕ, zero, suc, ◌+◌, ◌*◌, ◌≤◌, ◌<◌, ◌==◌, ◌⊎◌, List, length, Any, Contains, Option, Some, None, IfSome, IsSomeAnd, true, false, slice_get, slice_index, if◌then◌else◌}
 use Rattle.macho_fields.specs.Field.{number, part, HasZero}
 use Rattle.macho_fields.specs.Image.{commands_of}
 use Rattle.macho_fields.specs.LoadCommands.{linkedit_data_table}
 use Rattle.macho_fields.specs.Segment.{all_segments, base_of, vmaddr, vmsize, fileoff, filesize}
 use Rattle.macho_fields.specs.Symbol.{table_at}
-use Rattle.macho_fields.specs.Universal.{slices_of, slice_bytes, IsImage}
+use Rattle.macho_fields.specs.Universal.{OfEachImage}
 use Rattle.macho_fields.specs.declared.bytes.Order.TheVariants.{Little}
 use Rattle.macho_chains.specs.ChainHeader.{chain_header}
 use Rattle.macho_chains.specs.ChainImports.{import_offset, import_name_start, names_size, IsOfNoLibrary}
@@ -123,8 +123,8 @@ ChainReaches image home first (suc n) last =
 
 -- Memory has the bytes of the file, but for those that a kernel decrypts. It is so when an image has been
 -- mapped, and nothing has been written yet.
-abbrev pub IsMapped : List ℕ → (ℕ → ℕ) → Type 0
-IsMapped image memory =
+abbrev pub IsInMemory : List ℕ → (ℕ → ℕ) → Type 0
+IsInMemory image memory =
     (s k : ℕ) → Contains (all_segments image) s → 0 < vmsize image s → is_protected image s ≡ false
     → k < filesize image s
     → (¬ Any (Encrypts (record { start = fileoff image s + k; len = 1 }) image) (commands_of image))
@@ -185,12 +185,11 @@ pub record IsChainSafe (image chains : List ℕ) (header : ChainHeader) (home n 
 abbrev pub IsChainedSafely : List ℕ → Type 0
 IsChainedSafely image =
     (table : ℕ × ℕ × ℕ) (home n : ℕ) (first last : ChainState) → IsChainTableAt image table home
-    → IsMapped image first.memory → first.segment ≡ 0 → first.page ≡ 0 → first.next ≡ None
+    → IsInMemory image first.memory → first.segment ≡ 0 → first.page ≡ 0 → first.next ≡ None
     → ChainReaches image home first n last
     → IsSomeAnd (chain_header (part table.0 table.1 image))
     (λ header. IsChainSafe image (part table.0 table.1 image) header home n last)
 
 -- of a file: so is each 64-bit slice
 abbrev pub AreChainedSafely : List ℕ → Type 0
-AreChainedSafely file =
-    All (λ slice. IsImage (slice_bytes file slice) → IsChainedSafely (slice_bytes file slice)) (slices_of file)
+AreChainedSafely = OfEachImage IsChainedSafely

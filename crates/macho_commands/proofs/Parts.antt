@@ -1,13 +1,13 @@
 -- The parts of a command, as they are put together.
 use Rattle.std.proofs.Common.{◌≡◌, ◌↔◌, ◌⊎◌, ℕ, ◌≤◌, List, length, sym, subst, arith, inl, inr}
 use Rattle.macho_spans.specs.declared.span.Span.{Span}
-use Rattle.macho_commands.specs.Described.{IsPart, AreParts, IsInParts, IsBadPart, IsWithin, HasBadPart, HasStrayByte, HasOther}
+use Rattle.macho_commands.specs.Described.{IsDescribedPart, AreParts, IsInParts, IsBadPart, IsWithin, HasBadPart, HasStrayByte, HasOther}
 use Rattle.macho_commands.specs.declared.content.Content.{Content}
 use Rattle.macho_commands.specs.declared.content.Holding.{Holding}
 use Rattle.macho_commands.specs.declared.described.Parts.{Parts}
 
 -- a part without bytes
-pub no_part : (size : ℕ) (bytes : List ℕ) → size ≤ length bytes → IsPart size bytes (λ _. ⊥) (record { start = size; len = 0 })
+pub no_part : (size : ℕ) (bytes : List ℕ) → size ≤ length bytes → IsDescribedPart size bytes (λ _. ⊥) (record { start = size; len = 0 })
 no_part size bytes whole = record {
   start = omega arith;
   end = omega arith;
@@ -16,7 +16,7 @@ no_part size bytes whole = record {
 
 module _ (bytes : List ℕ) (content : Content) (what : Holding) (is : content.holding ≡ what) where
   -- two parts are those of a command that holds such
-  pub are_parts : (P Q : ℕ → Type 0) (first second : Span) → IsPart content.size bytes P first → IsPart content.size bytes Q second → ¬ IsBadPart content.size bytes what
+  pub are_parts : (P Q : ℕ → Type 0) (first second : Span) → IsDescribedPart content.size bytes P first → IsDescribedPart content.size bytes Q second → ¬ IsBadPart content.size bytes what
       → ((offset : ℕ) → (P offset ⊎ Q offset) ↔ IsWithin content.size bytes what offset) → AreParts bytes content (record { first = first; second = second })
   are_parts P Q first second one other good same = record {
     inside = record { first_start = one.start; first_end = one.end; second_start = other.start; second_end = other.end };
@@ -29,7 +29,7 @@ module _ (bytes : List ℕ) (content : Content) (what : Holding) (is : content.h
   }
 
   -- one part is
-  pub is_part : (P : ℕ → Type 0) (first : Span) → content.size ≤ length bytes → IsPart content.size bytes P first → ¬ IsBadPart content.size bytes what
+  pub is_part : (P : ℕ → Type 0) (first : Span) → content.size ≤ length bytes → IsDescribedPart content.size bytes P first → ¬ IsBadPart content.size bytes what
       → ((offset : ℕ) → P offset ↔ IsWithin content.size bytes what offset) → AreParts bytes content (record { first = first; second = record { start = content.size; len = 0 } })
   is_part P first whole one good same =
       are_parts P (λ _. ⊥) first (record { start = content.size; len = 0 }) one (no_part content.size bytes whole) good

@@ -13,7 +13,7 @@ use Rattle.macho_commands.specs.Content.{content_of, is_foreign}
 use Rattle.macho_commands.specs.Described.{name_offset, module_count, modules_offset, string_count, zero_count, IsBadName, IsBadPart}
 use Rattle.macho_commands.specs.Registers.{registers_of}
 use Rattle.macho_commands.specs.Sound.{IsWholeName, IsWholePart, HasTarget, IsSoundContent, HasAtMostOne, HasSoundCommands}
-use Rattle.macho_commands.specs.States.{flavor, word_count, words_offset, state_end, header_at, HasHeader, HasEntry, IsEntryOf, FollowStates, AreStates, IsRegisterState, has_registers}
+use Rattle.macho_commands.specs.States.{flavor, word_count, words_offset, state_end, header_at, HasStateHeader, HasEntry, IsEntryOf, FollowStates, AreStates, IsRegisterState, has_registers}
 use Rattle.macho_commands.specs.declared.content.Content.{Content}
 use Rattle.macho_commands.specs.declared.content.Holding.{Holding}
 use Rattle.macho_commands.specs.declared.content.Holding.TheVariants as holding
@@ -107,7 +107,7 @@ module _ (bytes : List ℕ) where
         head [] = 0
         head (x ∷ xs) = x
 
-  header_or_not : (words : ℕ) (header : Option StateHeader) → HasHeader bytes words header ⊎ ¬ HasHeader bytes words header
+  header_or_not : (words : ℕ) (header : Option StateHeader) → HasStateHeader bytes words header ⊎ ¬ HasStateHeader bytes words header
   header_or_not words None = inl tt
   header_or_not words (Some h) = elim (cases_eq (flavor bytes words) h.flavor) [
     | inr other ↦ inr (λ same. other (ap (λ (g : StateHeader). g.flavor) same))

@@ -100,7 +100,7 @@ HasStrayByte bytes content =
 -- What the code finds
 
 -- the span lies in the command past a structure of this size, and has the offsets with P
-pub record IsPart (size : ℕ) (bytes : List ℕ) (P : ℕ → Type 0) (span : Span) : Type 0 where
+pub record IsDescribedPart (size : ℕ) (bytes : List ℕ) (P : ℕ → Type 0) (span : Span) : Type 0 where
   pub start : size ≤ span.start
   pub end : end_of span ≤ length bytes
   pub holds : (offset : ℕ) → size ≤ offset → offset < length bytes → Holds span offset ↔ P offset

@@ -1,11 +1,11 @@
 -- What holds of the load commands of an image that breaks neither the rule of threads nor that of the content of
 -- commands.
-use Rattle.std.specs.Prelude.{◌≡◌, ℕ, ◌+◌, ◌-◌, ◌*◌, ◌≤◌, ◌<◌, ⊤, List, length, All, Contains, Bool, true, false, IfSome, slice_index}
+use Rattle.std.specs.Prelude.{◌≡◌, ℕ, ◌+◌, ◌-◌, ◌*◌, ◌≤◌, ◌<◌, ⊤, List, length, Contains, Bool, true, false, IfSome, slice_index}
 use Rattle.macho_fields.specs.Field.{HasZero}
 use Rattle.macho_fields.specs.Image.{command_cmd, commands_of}
 use Rattle.macho_fields.specs.Segment.{IsExecutable}
 use Rattle.macho_fields.specs.Symbol.{number_of, table_at}
-use Rattle.macho_fields.specs.Universal.{slices_of, slice_bytes, IsImage}
+use Rattle.macho_fields.specs.Universal.{OfEachImage}
 use Rattle.macho_commands.specs.Commands.{command_bytes, is_thread, is_routine, IsSoundThread}
 use Rattle.macho_commands.specs.Content.{content_of, is_foreign}
 use Rattle.macho_commands.specs.Described.{name_offset, module_count, modules_offset, string_count, zero_count, HasStrayByte}
@@ -75,6 +75,4 @@ pub record HasSoundCommands (image : List ℕ) : Type 0 where
 
 -- of a file: each 64-bit slice is such an image
 abbrev pub AreSoundCommands : List ℕ → Type 0
-AreSoundCommands file =
-    All (λ slice. IsImage (slice_bytes file slice) → HasSoundCommands (slice_bytes file slice))
-    (slices_of file)
+AreSoundCommands = OfEachImage HasSoundCommands

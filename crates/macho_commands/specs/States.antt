@@ -48,13 +48,13 @@ abbrev pub header_at : List ℕ → ℕ → StateHeader
 header_at bytes offset = record { flavor = flavor bytes offset; count = word_count bytes offset }
 
 -- the words of a state begin with the header, where registers have one
-abbrev pub HasHeader : List ℕ → ℕ → Option StateHeader → Type 0
-HasHeader bytes words header = IfSome header (λ h. header_at bytes words ≡ h)
+abbrev pub HasStateHeader : List ℕ → ℕ → Option StateHeader → Type 0
+HasStateHeader bytes words header = IfSome header (λ h. header_at bytes words ≡ h)
 
 -- a state with these registers is whole, and has this entry
 pub record HasEntry (bytes : List ℕ) (state address : ℕ) (registers : Registers) : Type 0 where
   pub count : word_count bytes state ≡ registers.count
-  pub header : HasHeader bytes (words_offset state) registers.header
+  pub header : HasStateHeader bytes (words_offset state) registers.header
   pub entry : long bytes (words_offset state + registers.entry) ≡ address
 
 -- the registers of the state are whole, and have this entry

@@ -21,6 +21,6 @@ pub record NotesContent (image : List ℕ) (command : CommandView) (old new : Wa
       command.place old.content new.content
 
 -- the least places at which the rules are broken
-pub record IsSurveyOf (image : List ℕ) (survey : CommandSurvey) : Type 0 where
+pub record IsCommandSurveyOf (image : List ℕ) (survey : CommandSurvey) : Type 0 where
   pub thread : IsLeastPlace (BreaksThread image) survey.thread
   pub content : IsLeastPlace (BreaksCommandContent image) survey.content

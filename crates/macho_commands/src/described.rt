@@ -5,7 +5,7 @@ ghost use Rattle.std.specs.Prelude.{◌≡◌, ◌+◌, ◌≤◌, ◌⊎◌, �
 ghost use Rattle.macho_fields.specs.Bytes.{bytes_of};
 ghost use Rattle.macho_fields.specs.NonZero.{HasNonZero};
 ghost use Rattle.macho_commands.specs.Content.{HasFields};
-ghost use Rattle.macho_commands.specs.Described.{IsBadName, IsInName, HasBadModules, IsInModules, HasBadStrings, HasFewStrings, IsInStrings, IsPart};
+ghost use Rattle.macho_commands.specs.Described.{IsBadName, IsInName, HasBadModules, IsInModules, HasBadStrings, HasFewStrings, IsInStrings, IsDescribedPart};
 ghost use Rattle.macho_commands.specs.Described.{HasBadPart, HasStrayByte, AreParts, LieInside, IsInParts, HasOther};
 
 use crate::content::{Content, Holding};
@@ -78,7 +78,7 @@ fn name_of(command: Bytes, size: u64) -> Option<Span>
     ensures bad { IfNone result (IsBadName size (bytes_of command.entry)) }
     ensures good { IfSome result (λ _. ¬ IsBadName size (bytes_of command.entry)) }
     ensures part { IfSome result
-        (IsPart size (bytes_of command.entry) (IsInName (bytes_of command.entry))) }
+        (IsDescribedPart size (bytes_of command.entry) (IsInName (bytes_of command.entry))) }
 {
     let start = u64::from(command.read_u32(Order::Little, LC_STR_OFFSET));
     if start < size {
@@ -102,7 +102,7 @@ fn modules_of(command: Bytes, size: u64) -> Option<Span>
     ensures bad { IfNone result (HasBadModules size (bytes_of command.entry)) }
     ensures good { IfSome result (λ _. ¬ HasBadModules size (bytes_of command.entry)) }
     ensures part { IfSome result
-        (IsPart size (bytes_of command.entry) (IsInModules (bytes_of command.entry))) }
+        (IsDescribedPart size (bytes_of command.entry) (IsInModules (bytes_of command.entry))) }
 {
     let start = u64::from(command.read_u32(Order::Little, LINKED_MODULES));
     let count = u64::from(command.read_u32(Order::Little, NMODULES));
@@ -121,7 +121,7 @@ fn strings_of(command: Bytes, size: u64) -> Option<Span>
     requires whole { size ≤ length (bytes_of command) }
     ensures bad { IfNone result (HasBadStrings size (bytes_of command.entry)) }
     ensures good { IfSome result (λ _. ¬ HasBadStrings size (bytes_of command.entry)) }
-    ensures part { IfSome result (IsPart size (bytes_of command.entry) (λ _. ⊤)) }
+    ensures part { IfSome result (IsDescribedPart size (bytes_of command.entry) (λ _. ⊤)) }
 {
     let len = command.len() - size;
     if len > 0 && command.read_u8(command.len() - 1) != 0 {
@@ -137,7 +137,7 @@ fn counted_strings_of(command: Bytes, size: u64) -> Option<Span>
     ensures bad { IfNone result (HasFewStrings size (bytes_of command.entry)) }
     ensures good { IfSome result (λ _. ¬ HasFewStrings size (bytes_of command.entry)) }
     ensures part { IfSome result
-        (IsPart size (bytes_of command.entry) (IsInStrings size (bytes_of command.entry))) }
+        (IsDescribedPart size (bytes_of command.entry) (IsInStrings size (bytes_of command.entry))) }
 {
     let end = strings_end(command, size)?;
     Some(Span {

@@ -3,7 +3,7 @@
 ghost use Rattle.std.specs.Prelude.{◌≡◌, ◌+◌, ◌^◌, ◌≤◌, ◌<◌, ◌↔◌, ℕ, length, IsTrue, IsSome, IfSome, Some};
 ghost use Rattle.macho_fields.specs.Bytes.{bytes_of};
 ghost use Rattle.macho_commands.specs.States.{state_end, has_registers, header_at, IsRegisterState, IsEntryOf};
-ghost use Rattle.macho_commands.specs.States.{HasThreadEntry, HasHeader};
+ghost use Rattle.macho_commands.specs.States.{HasThreadEntry, HasStateHeader};
 
 use crate::loader::{STATE_COUNT, STATE_HEADER_SIZE, STATE_WORD_SIZE};
 use crate::registers::{StateHeader, registers_of};
@@ -87,7 +87,7 @@ fn entry_of(cputype: u32, command: Bytes, state: u64) -> Option<u64>
 // Whether the words of a state begin with the header, if registers have one.
 fn has_header(command: Bytes, words: u64, header: Option<StateHeader>) -> bool
     requires { words + 8 ≤ length (bytes_of command) }
-    ensures { IsTrue result ↔ HasHeader (bytes_of command.entry) words header }
+    ensures { IsTrue result ↔ HasStateHeader (bytes_of command.entry) words header }
 {
     match header {
         Some(header) => header_at(command, words) == header,

@@ -18,11 +18,11 @@ pub struct CommandSurvey {
 }
 
 impl CommandSurvey {
-    ghost use Rattle.macho_commands.specs.Survey.{IsSurveyOf};
+    ghost use Rattle.macho_commands.specs.Survey.{IsCommandSurveyOf};
 
     /// Goes over the commands of the image once. It takes no memory.
     pub fn of(image: &Image) -> CommandSurvey
-        ensures { IsSurveyOf image.now result }
+        ensures { IsCommandSurveyOf image.now result }
     {
         let mut walk = Walk::new();
         for command in image.commands() {

@@ -10,7 +10,7 @@ use Rattle.macho_spans.specs.declared.span.Span.{Span}
 use Rattle.macho_exports.specs.ExportTrie.{Node, edges_at, head_at, node_at}
 use Rattle.macho_exports.specs.declared.export_trie.ExportEdge.{ExportEdge}
 use Rattle.macho_exports.specs.declared.export_trie.ExportNode.{ExportNode}
-use Rattle.macho_explain.specs.Compared.{HasAddress, Shows, ShowsExport, node_bounds}
+use Rattle.macho_explain.specs.Compared.{HasAddress, ShowsConflict, ShowsExport, node_bounds}
 use Rattle.macho_explain.specs.Explain.{IsSegmentFound}
 use Rattle.macho_explain.specs.declared.conflict.Conflict.{Conflict}
 use Rattle.macho_explain.specs.declared.segment.SegmentAt.{SegmentAt}
@@ -64,7 +64,7 @@ has_address image address (Some segment) is some =
 
 -- Rules
 
-pub rule_shown : (r : Rule) (image : List ℕ) (place : ℕ) (c : Conflict) → ShowsExport r image place c → Shows r image place c
+pub rule_shown : (r : Rule) (image : List ℕ) (place : ℕ) (c : Conflict) → ShowsExport r image place c → ShowsConflict r image place c
 rule_shown rule.ExportNode image place c has = has
 rule_shown rule.ExportTotal image place c has = has
 rule_shown rule.ExportTerminal image place c has = has

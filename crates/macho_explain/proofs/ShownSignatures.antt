@@ -10,11 +10,11 @@ use Rattle.macho_signature.specs.Superblobs.{blob_at, blob_bytes, blob_span}
 use Rattle.macho_signature.specs.declared.code_directory.CodeDirectory.{CodeDirectory}
 use Rattle.macho_signature.specs.declared.superblob.Blob.{Blob}
 use Rattle.macho_spans.specs.declared.span.Span.{Span}
-use Rattle.macho_explain.specs.Compared.{Shows}
+use Rattle.macho_explain.specs.Compared.{ShowsConflict}
 use Rattle.macho_explain.specs.Signatures.{IsSoundnessShown, IsUnsoundShown, ShowsSignature}
 use Rattle.macho_explain.specs.declared.conflict.Conflict.{Conflict}
 
-pub rule_shown : (r : Rule) (image : List ℕ) (place : ℕ) (c : Conflict) → ShowsSignature r image place c.value c.limit → Shows r image place c
+pub rule_shown : (r : Rule) (image : List ℕ) (place : ℕ) (c : Conflict) → ShowsSignature r image place c.value c.limit → ShowsConflict r image place c
 rule_shown rule.SignatureBlob image place c has = has
 rule_shown rule.SignatureDirectory image place c has = has
 rule_shown rule.SignatureWhole image place c has = has

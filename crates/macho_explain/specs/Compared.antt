@@ -113,8 +113,8 @@ flags_shown trie terminal =
     option_map_or (λ flags. flags.0) (unsigned_at (take (end_of terminal) trie) terminal.start) 0
 
 -- an export is in the terminal part, and what it leads to has P
-abbrev pub HasTarget : List ℕ → Span → (Target → Type 0) → Type 0
-HasTarget trie terminal P = IsSomeAnd (export_in trie terminal) (λ e. P e.0.target)
+abbrev pub HasExportTarget : List ℕ → Span → (Target → Type 0) → Type 0
+HasExportTarget trie terminal P = IsSomeAnd (export_in trie terminal) (λ e. P e.0.target)
 
 -- the ordinal of the library that has a symbol
 abbrev pub HasOrdinal : ℕ → Target → Type 0
@@ -147,10 +147,10 @@ ShowsNode rule.ExportTotal image trie offset value limit =
 ShowsNode rule.ExportTerminal image trie offset value limit =
     IsSomeAnd (node_at trie offset) (λ node. value ≡ flags_shown trie node.terminal) × (limit ≡ 0x1f)
 ShowsNode rule.ExportLibrary image trie offset value limit =
-    IsSomeAnd (node_at trie offset) (λ node. HasTarget trie node.terminal (HasOrdinal value))
+    IsSomeAnd (node_at trie offset) (λ node. HasExportTarget trie node.terminal (HasOrdinal value))
     × (limit ≡ library_count image)
 ShowsNode rule.ExportAddress image trie offset value limit =
-    IsSomeAnd (node_at trie offset) (λ node. HasTarget trie node.terminal (LeadsTo image value))
+    IsSomeAnd (node_at trie offset) (λ node. HasExportTarget trie node.terminal (LeadsTo image value))
     × (limit ≡ 0)
 ShowsNode other image trie offset value limit = ⊥
 
@@ -175,84 +175,84 @@ IsThreadShown image place c =
     ⊎ ((c.value ≡ command_size image place) × (c.limit ≡ 0))
 
 -- what is shown of a rule of an image that is broken at a place of it
-abbrev pub Shows : Rule → List ℕ → ℕ → Conflict → Type 0
-Shows rule.HeaderTruncated image place c = (c.value ≡ 32) × (c.limit ≡ length image)
-Shows rule.FileType image place c = c.value ≡ word_at image 12
-Shows rule.CommandsOutside image place c =
+abbrev pub ShowsConflict : Rule → List ℕ → ℕ → Conflict → Type 0
+ShowsConflict rule.HeaderTruncated image place c = (c.value ≡ 32) × (c.limit ≡ length image)
+ShowsConflict rule.FileType image place c = c.value ≡ word_at image 12
+ShowsConflict rule.CommandsOutside image place c =
     (c.value ≡ 32 + word_at image 20) × (c.limit ≡ length image)
-Shows rule.CommandsEnd image place c = c.limit ≡ 32 + word_at image 20
-Shows rule.HeaderSegment image place c = c.value ≡ 32 + word_at image 20
-Shows rule.CommandShort image place c = c.value ≡ command_size image place
-Shows rule.CommandRepeated image place c =
+ShowsConflict rule.CommandsEnd image place c = c.limit ≡ 32 + word_at image 20
+ShowsConflict rule.HeaderSegment image place c = c.value ≡ 32 + word_at image 20
+ShowsConflict rule.CommandShort image place c = c.value ≡ command_size image place
+ShowsConflict rule.CommandRepeated image place c =
     (c.value ≡ command_cmd image place) × (c.limit ≡ command_cmd image place)
     × (c.second.index < c.first.index)
-Shows rule.Name image place c = c.value ≡ word_at image (place + 8)
-Shows rule.SegmentAddress image place c =
+ShowsConflict rule.Name image place c = c.value ≡ word_at image (place + 8)
+ShowsConflict rule.SegmentAddress image place c =
     (c.value ≡ vmsize image place) × (c.limit ≡ written (2 ^ 64 - vmaddr image place))
-Shows rule.SegmentSize image place c =
+ShowsConflict rule.SegmentSize image place c =
     (c.value ≡ filesize image place) × (c.limit ≡ vmsize image place)
-Shows rule.SegmentFile image place c =
+ShowsConflict rule.SegmentFile image place c =
     (c.value ≡ written (fileoff image place + filesize image place)) × (c.limit ≡ length image)
-Shows rule.SegmentOverlap image place c = Share c
-Shows rule.SectionAddress image place c =
+ShowsConflict rule.SegmentOverlap image place c = Share c
+ShowsConflict rule.SectionAddress image place c =
     (segment : ℕ) × ShowsOutsideMemory image segment place c.value c.limit
-Shows rule.SectionFile image place c =
+ShowsConflict rule.SectionFile image place c =
     (segment : ℕ) × ShowsMisplaced image segment place c.value c.limit
-Shows rule.SectionRelocs image place c =
+ShowsConflict rule.SectionRelocs image place c =
     (c.value ≡ reloff image place + 8 * nreloc image place) × (c.limit ≡ length image)
-Shows rule.SymbolName image place c = c.value ≡ n_strx image place
-Shows rule.SymbolSection image place c =
+ShowsConflict rule.SymbolName image place c = c.value ≡ n_strx image place
+ShowsConflict rule.SymbolSection image place c =
     (c.value ≡ n_sect image place) × (c.limit ≡ section_count image (commands_of image))
-Shows rule.IndirectIndex image place c = c.value ≡ word_at image place
-Shows rule.SegmentFileOverlap image place c = Share c
-Shows rule.ElementOverlap image place c = SharesOrPasses image c
-Shows rule.StrayByte image place c = (slice_get image place ≡ Some c.value) × (c.limit ≡ 0)
-Shows rule.CommandSlack image place c = (slice_get image place ≡ Some c.value) × (c.limit ≡ 0)
-Shows rule.UnclaimedByte image place c = (slice_get image place ≡ Some c.value) × (c.limit ≡ 0)
-Shows rule.TableRepeated image place c =
+ShowsConflict rule.IndirectIndex image place c = c.value ≡ word_at image place
+ShowsConflict rule.SegmentFileOverlap image place c = Share c
+ShowsConflict rule.ElementOverlap image place c = SharesOrPasses image c
+ShowsConflict rule.StrayByte image place c = (slice_get image place ≡ Some c.value) × (c.limit ≡ 0)
+ShowsConflict rule.CommandSlack image place c = (slice_get image place ≡ Some c.value) × (c.limit ≡ 0)
+ShowsConflict rule.UnclaimedByte image place c = (slice_get image place ≡ Some c.value) × (c.limit ≡ 0)
+ShowsConflict rule.TableRepeated image place c =
     (c.value ≡ command_cmd image place) × (share_kind c.limit c.value ≡ true)
     × (c.second.index < c.first.index)
-Shows rule.FunctionVariants image place c = c.value ≡ command_cmd image place
-Shows rule.RebaseOpcode image place c = (slice_get image place ≡ Some c.value) × (c.limit ≡ 143)
-Shows rule.BindOpcode image place c = (slice_get image place ≡ Some c.value) × (c.limit ≡ 207)
-Shows rule.RebaseTotal image place c = c.limit ≡ written (budget_of image)
-Shows rule.BindTotal image place c = c.limit ≡ written (budget_of image)
-Shows rule.BindLibrary image place c = c.limit ≡ library_count image
-Shows rule.ChainHeader image place c =
+ShowsConflict rule.FunctionVariants image place c = c.value ≡ command_cmd image place
+ShowsConflict rule.RebaseOpcode image place c = (slice_get image place ≡ Some c.value) × (c.limit ≡ 143)
+ShowsConflict rule.BindOpcode image place c = (slice_get image place ≡ Some c.value) × (c.limit ≡ 207)
+ShowsConflict rule.RebaseTotal image place c = c.limit ≡ written (budget_of image)
+ShowsConflict rule.BindTotal image place c = c.limit ≡ written (budget_of image)
+ShowsConflict rule.BindLibrary image place c = c.limit ≡ library_count image
+ShowsConflict rule.ChainHeader image place c =
     IsChainSize image c.value × (c.limit ≡ chained.DYLD_CHAINED_FIXUPS_HEADER_SIZE)
-Shows rule.ChainStarts image place c =
+ShowsConflict rule.ChainStarts image place c =
     IsChainSize image c.limit
     ⊎ ((c.value ≡ word_at image place) × (c.limit ≡ length (all_segments image)))
-Shows rule.ChainImports image place c = IsChainSize image c.limit
-Shows rule.ChainTotal image place c = IsChainSize image c.limit
-Shows rule.ChainLibrary image place c = c.limit ≡ library_count image
-Shows rule.ChainBind image place c = Binds image place c.value
-Shows rule.ExportNode image place c = ShowsExport rule.ExportNode image place c
-Shows rule.ExportTotal image place c = ShowsExport rule.ExportTotal image place c
-Shows rule.ExportTerminal image place c = ShowsExport rule.ExportTerminal image place c
-Shows rule.ExportLibrary image place c = ShowsExport rule.ExportLibrary image place c
-Shows rule.ExportAddress image place c = ShowsExport rule.ExportAddress image place c
-Shows rule.FunctionNumber image place c = (slice_get image place ≡ Some c.value) × (c.limit ≡ 0)
-Shows rule.FunctionStart image place c = IsFunctionShown image place c.value
-Shows rule.DataInCode image place c =
+ShowsConflict rule.ChainImports image place c = IsChainSize image c.limit
+ShowsConflict rule.ChainTotal image place c = IsChainSize image c.limit
+ShowsConflict rule.ChainLibrary image place c = c.limit ≡ library_count image
+ShowsConflict rule.ChainBind image place c = Binds image place c.value
+ShowsConflict rule.ExportNode image place c = ShowsExport rule.ExportNode image place c
+ShowsConflict rule.ExportTotal image place c = ShowsExport rule.ExportTotal image place c
+ShowsConflict rule.ExportTerminal image place c = ShowsExport rule.ExportTerminal image place c
+ShowsConflict rule.ExportLibrary image place c = ShowsExport rule.ExportLibrary image place c
+ShowsConflict rule.ExportAddress image place c = ShowsExport rule.ExportAddress image place c
+ShowsConflict rule.FunctionNumber image place c = (slice_get image place ≡ Some c.value) × (c.limit ≡ 0)
+ShowsConflict rule.FunctionStart image place c = IsFunctionShown image place c.value
+ShowsConflict rule.DataInCode image place c =
     (c.limit ≡ dice.DATA_IN_CODE_ENTRY_SIZE) ⊎ IsEntryShown (entry_at image place) c
-Shows rule.SignatureBlob image place c = ShowsSignature rule.SignatureBlob image place c.value c.limit
-Shows rule.SignatureDirectory image place c =
+ShowsConflict rule.SignatureBlob image place c = ShowsSignature rule.SignatureBlob image place c.value c.limit
+ShowsConflict rule.SignatureDirectory image place c =
     ShowsSignature rule.SignatureDirectory image place c.value c.limit
-Shows rule.SignatureWhole image place c = ShowsSignature rule.SignatureWhole image place c.value c.limit
-Shows rule.SignatureMissing image place c = (place ≡ 0) × (c.value ≡ 0) × (c.limit ≡ 1)
-Shows rule.DirectoryRepeated image place c =
+ShowsConflict rule.SignatureWhole image place c = ShowsSignature rule.SignatureWhole image place c.value c.limit
+ShowsConflict rule.SignatureMissing image place c = (place ≡ 0) × (c.value ≡ 0) × (c.limit ≡ 1)
+ShowsConflict rule.DirectoryRepeated image place c =
     IsRepeatShown image place c.value × (c.limit ≡ c.value) × (c.second.index < c.first.index)
-Shows rule.SignatureSlack image place c = (slice_get image place ≡ Some c.value) × (c.limit ≡ 0)
-Shows rule.SignatureHash image place c = ShowsHash image place c.value c.limit
-Shows rule.SymbolLibrary image place c =
+ShowsConflict rule.SignatureSlack image place c = (slice_get image place ≡ Some c.value) × (c.limit ≡ 0)
+ShowsConflict rule.SignatureHash image place c = ShowsHash image place c.value c.limit
+ShowsConflict rule.SymbolLibrary image place c =
     (c.value ≡ library_ordinal (symbol_at image place)) × (c.limit ≡ library_count image)
-Shows rule.SymbolValue image place c = c.value ≡ (symbol_at image place).value
-Shows rule.SymbolIndirect image place c = c.value ≡ (symbol_at image place).value
-Shows rule.Relocation image place c = IsRelocationShown (relocation_at image place) c
-Shows rule.Thread image place c = IsThreadShown image place c
-Shows rule.CommandContent image place c = c.value ≡ command_size image place
-Shows other image place c = Unit {0}
+ShowsConflict rule.SymbolValue image place c = c.value ≡ (symbol_at image place).value
+ShowsConflict rule.SymbolIndirect image place c = c.value ≡ (symbol_at image place).value
+ShowsConflict rule.Relocation image place c = IsRelocationShown (relocation_at image place) c
+ShowsConflict rule.Thread image place c = IsThreadShown image place c
+ShowsConflict rule.CommandContent image place c = c.value ≡ command_size image place
+ShowsConflict other image place c = Unit {0}
 
 -- the slice with the index has P
 abbrev pub OfSlice : List ℕ → ℕ → (FileSlice → Type 0) → Type 0
@@ -286,4 +286,4 @@ pub record IsSpot (image : List ℕ) (place : ℕ) (spot : Spot) : Type 0 where
 
 -- what is found at a place of an image
 abbrev pub IsFound : Rule → List ℕ → ℕ → Spot × Conflict → Type 0
-IsFound rule image place found = IsSpot image place found.0 × Shows rule image place found.1
+IsFound rule image place found = IsSpot image place found.0 × ShowsConflict rule image place found.1

@@ -105,8 +105,8 @@ ShowsEntry rule.SignatureWhole start signature k value limit =
 ShowsEntry other start signature k value limit = ⊥
 
 -- the table that a linkedit_data_command with this cmd names: dataoff at 8, datasize at 12
-abbrev pub IsTableOf : List ℕ → ℕ → Span → Type 0
-IsTableOf image cmd table =
+abbrev pub IsTableOfCommand : List ℕ → ℕ → Span → Type 0
+IsTableOfCommand image cmd table =
     (index : ℕ) × (command : ℕ) × (slice_get (all_loads image) index ≡ Some command)
     × (command_cmd image command ≡ cmd)
     × (table.start ≡ word_at image (command + 8)) × (table.len ≡ word_at image (command + 12))
@@ -114,7 +114,7 @@ IsTableOf image cmd table =
 -- the signature of an image, which lies in it
 abbrev pub IsSignatureOf : List ℕ → Span → List ℕ → Type 0
 IsSignatureOf image table signature =
-    IsTableOf image loader.LC_CODE_SIGNATURE table × (end_of table ≤ length image)
+    IsTableOfCommand image loader.LC_CODE_SIGNATURE table × (end_of table ≤ length image)
     × (signature ≡ part table.start table.len image)
 
 -- what is shown of a rule that is broken at a place of the image: at the first byte of its signature, or at an entry

@@ -1,8 +1,7 @@
 //! Why a blob of a code signature is no sound code directory. (`cs_blobs.h`: `CS_CodeDirectory`)
 
-ghost use Rattle.std.specs.Prelude.{◌↔◌, IfSome, IsTrue};
+ghost use Rattle.std.specs.Prelude.{IfSome};
 ghost use Rattle.macho_fields.specs.Bytes.{bytes_of};
-ghost use Rattle.macho_signature.specs.CodeDirectories.{HasName};
 ghost use Rattle.macho_signature.specs.Signature.{bytes_at};
 ghost use Rattle.macho_explain.specs.Signatures.{AreHashesShown, IsFormShown, IsNameShown, IsSoundnessShown, IsUnsoundShown};
 
@@ -12,10 +11,10 @@ use crate::part::Part;
 use crate::signature::{Signature, word};
 use crate::sliced::Sliced;
 use crate::table::Bounded;
-use macho_fields::{Bytes, Span};
+use macho_fields::Bytes;
 use macho_signature::CodeDirectory;
 use macho_signature::code_directory::{
-    SCATTER_OFFSET, VERSION, fields_size, size_of_hash, slots_of,
+    SCATTER_OFFSET, VERSION, fields_size, has_name, size_of_hash, slots_of,
 };
 use macho_signature::cs_blobs::{
     CS_CODE_DIRECTORY_SIZE, CS_EARLIEST_VERSION, CS_HASHTYPE_SHA384, CS_SUPPORTSSCATTER,
@@ -115,23 +114,12 @@ fn hash_numbers(directory: CodeDirectory, size: u64) -> Option<Numbers>
 fn endless_name(blob: Bytes, directory: CodeDirectory) -> Option<u32>
     ensures { IfSome result (IsNameShown (bytes_of blob.entry) directory) }
 {
-    if !ends(blob, directory.ident_offset) {
+    if !has_name(blob, directory.ident_offset) {
         return Some(directory.ident_offset);
     }
-    if ends(blob, directory.team_offset) {
+    if has_name(blob, directory.team_offset) {
         None
     } else {
         Some(directory.team_offset)
     }
-}
-
-// Whether a name at an offset of the blob ends in it. There is none at 0.
-fn ends(blob: Bytes, offset: u32) -> bool
-    ensures { IsTrue result ↔ HasName (bytes_of blob.entry) offset }
-{
-    let rest = Span {
-        start: u64::from(offset),
-        len: blob.len(),
-    };
-    offset == 0 || blob.first_zero(rest).is_some()
 }

@@ -6,7 +6,7 @@ ghost use Rattle.macho_fields.specs.Bytes.{bytes_of};
 ghost use Rattle.macho_fields.specs.declared.rule.Rule.{Rule};
 ghost use Rattle.macho_spans.specs.Span.{end_of};
 ghost use Rattle.macho_exports.specs.ExportTrie.{node_at as node_at_of};
-ghost use Rattle.macho_explain.specs.Compared.{HasAddress, HasOrdinal, HasTarget, IsAddressShown, IsFound, LeadsTo, ShowsNode, flags_shown, node_bounds};
+ghost use Rattle.macho_explain.specs.Compared.{HasAddress, HasOrdinal, HasExportTarget, IsAddressShown, IsFound, LeadsTo, ShowsNode, flags_shown, node_bounds};
 
 use crate::conflict::Conflict;
 use crate::functions::data_table;
@@ -116,7 +116,7 @@ fn flags_in(trie: Bytes, terminal: Span) -> u64
 // The ordinal of the library that has the symbol of a terminal part.
 fn ordinal_in(trie: Bytes, terminal: Span) -> Option<u64>
     requires { end_of terminal ≤ length (bytes_of trie) }
-    ensures { IfSome result (λ ordinal. HasTarget (bytes_of trie.entry) terminal (HasOrdinal ordinal)) }
+    ensures { IfSome result (λ ordinal. HasExportTarget (bytes_of trie.entry) terminal (HasOrdinal ordinal)) }
 {
     let (export, _) = Export::read(trie, terminal)?;
     match export.target {
@@ -129,7 +129,7 @@ fn ordinal_in(trie: Bytes, terminal: Span) -> Option<u64>
 fn address_in(sliced: &Sliced, trie: Bytes, terminal: Span) -> Option<u64>
     requires { end_of terminal ≤ length (bytes_of trie) }
     ensures { IfSome result (λ address.
-        HasTarget (bytes_of trie.entry) terminal (LeadsTo (bytes_of sliced.now.held.bytes) address)) }
+        HasExportTarget (bytes_of trie.entry) terminal (LeadsTo (bytes_of sliced.now.held.bytes) address)) }
 {
     let base = sliced.held.open()?.base()?;
     let (export, _) = Export::read(trie, terminal)?;

@@ -7,7 +7,7 @@ ghost use Rattle.macho_fields.specs.declared.rule.Rule.{Rule};
 ghost use Rattle.macho_fields.specs.LoadCommands.{structure_of};
 ghost use Rattle.macho_fields.specs.declared.load_command.Structure.TheVariants.{LinkeditDataCommand};
 ghost use Rattle.macho_explain.specs.Compared.{IsEntryShown, IsFound, IsStartShown};
-ghost use Rattle.macho_explain.specs.Signatures.{IsTableOf};
+ghost use Rattle.macho_explain.specs.Signatures.{IsTableOfCommand};
 
 use crate::conflict::Conflict;
 use crate::part::{BYTE, DATA_IN_CODE, DATA_IN_CODE_ENTRY, FUNCTION_START, NO_INDEX, index_of};
@@ -38,7 +38,7 @@ pub(crate) fn explain_functions(sliced: &Sliced, rule: Rule, place: u64) -> Opti
 // The table of the first command with this `cmd`.
 pub(crate) fn data_table(sliced: &Sliced, cmd: u32) -> Option<Bounded>
     ensures { structure_of cmd ≡ Some LinkeditDataCommand
-        → IfSome result (λ table. IsTableOf (bytes_of sliced.now.held.bytes) cmd table.span) }
+        → IfSome result (λ table. IsTableOfCommand (bytes_of sliced.now.held.bytes) cmd table.span) }
 {
     let walked = walk_to(sliced.held.bytes, Sought::First(cmd))?;
     let fields = tables_of(cmd).first()?;

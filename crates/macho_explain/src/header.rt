@@ -3,7 +3,7 @@
 ghost use Rattle.std.specs.Prelude.{ℕ, IfSome};
 ghost use Rattle.macho_fields.specs.Bytes.{bytes_of};
 ghost use Rattle.macho_fields.specs.declared.rule.Rule.{Rule};
-ghost use Rattle.macho_explain.specs.Compared.{IsFound, Shows};
+ghost use Rattle.macho_explain.specs.Compared.{IsFound, ShowsConflict};
 
 use crate::conflict::Conflict;
 use crate::entries::{arch_number, entry_part};
@@ -13,19 +13,13 @@ use crate::sliced::Sliced;
 use crate::spot::Spot;
 use crate::walk::{Sought, walk_end, walk_to};
 use macho_fat::Slice;
+use macho_fields::header::loader::mach_header_64::{CPUSUBTYPE, CPUTYPE, FILETYPE};
 use macho_fields::header::loader::{LC_ID_DYLIB, MACH_HEADER_64_SIZE};
 use macho_fields::header::machine::CPU_SUBTYPE_MASK;
 use macho_fields::header::vm_prot::{VM_PROT_READ, VM_PROT_WRITE};
 use macho_fields::{Bytes, Rule, file_type_of};
 use macho_image::Segment;
 use macho_tables::segment::is_text;
-
-// The offsets of the fields in `mach_header_64`.
-const CPUTYPE: u64 = 4;
-
-const CPUSUBTYPE: u64 = 8;
-
-const FILETYPE: u64 = 12;
 
 // Explains a rule of the header, which has the place.
 pub(crate) fn explain_header(
@@ -48,7 +42,7 @@ pub(crate) fn explain_header(
 
 // What conflicts in the header.
 fn header_conflict(sliced: &Sliced, file: Bytes, slice: &Slice, rule: Rule) -> Option<Conflict>
-    ensures { (place : ℕ) → IfSome result (Shows rule (bytes_of sliced.now.held.bytes) place) }
+    ensures { (place : ℕ) → IfSome result (ShowsConflict rule (bytes_of sliced.now.held.bytes) place) }
 {
     match rule {
         Rule::HeaderTruncated => Some(header_truncated(sliced)),
@@ -70,7 +64,7 @@ fn header_conflict(sliced: &Sliced, file: Bytes, slice: &Slice, rule: Rule) -> O
 
 // The header ends past the slice.
 fn header_truncated(sliced: &Sliced) -> Conflict
-    ensures { (place : ℕ) → Shows Rule.HeaderTruncated (bytes_of sliced.now.held.bytes) place result }
+    ensures { (place : ℕ) → ShowsConflict Rule.HeaderTruncated (bytes_of sliced.now.held.bytes) place result }
 {
     let header = sliced.structure(HEADER, 0, MACH_HEADER_64_SIZE, NO_INDEX);
     Conflict::of(
@@ -107,7 +101,7 @@ fn dylib_id(sliced: &Sliced) -> Conflict {
 
 // Where the last command ends, and where the header says that it does.
 fn commands_end(sliced: &Sliced) -> Option<Conflict>
-    ensures { (place : ℕ) → IfSome result (Shows Rule.CommandsEnd (bytes_of sliced.now.held.bytes) place) }
+    ensures { (place : ℕ) → IfSome result (ShowsConflict Rule.CommandsEnd (bytes_of sliced.now.held.bytes) place) }
 {
     let end = walk_end(sliced.held.bytes)?;
     let last = match end.last {
@@ -120,7 +114,7 @@ fn commands_end(sliced: &Sliced) -> Option<Conflict>
 
 // The first mapped segment with `fileoff` 0, which is too short for the headers.
 fn header_segment(sliced: &Sliced) -> Conflict
-    ensures { (place : ℕ) → Shows Rule.HeaderSegment (bytes_of sliced.now.held.bytes) place result }
+    ensures { (place : ℕ) → ShowsConflict Rule.HeaderSegment (bytes_of sliced.now.held.bytes) place result }
 {
     let end = sliced.commands_end();
     match find_segment(sliced, SegmentWith::Start) {

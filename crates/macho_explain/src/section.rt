@@ -3,7 +3,7 @@
 ghost use Rattle.std.specs.Prelude.{◌≡◌, IfSome};
 ghost use Rattle.macho_fields.specs.Bytes.{bytes_of};
 ghost use Rattle.macho_fields.specs.declared.rule.Rule.{Rule};
-ghost use Rattle.macho_explain.specs.Compared.{IsFound, IsSpot, Shows};
+ghost use Rattle.macho_explain.specs.Compared.{IsFound, IsSpot, ShowsConflict};
 ghost use Rattle.macho_explain.specs.Explain.{IsWalked, IsSectionFound, IsSectionRow, IsSegmentRow};
 ghost use Rattle.macho_explain.specs.declared.walk.Sought.TheVariants as sought;
 
@@ -84,7 +84,7 @@ pub(crate) fn explain_section(sliced: &Sliced, rule: Rule, place: u64) -> Option
 // What conflicts with a section.
 fn section_conflict(sliced: &Sliced, rule: Rule, section: &SectionAt) -> Option<Conflict>
     requires { IsSectionRow (bytes_of sliced.now.held.bytes) section.now }
-    ensures { IfSome result (Shows rule (bytes_of sliced.now.held.bytes) section.now.place) }
+    ensures { IfSome result (ShowsConflict rule (bytes_of sliced.now.held.bytes) section.now.place) }
 {
     let segment = find_segment(sliced, SegmentWith::Command(section.segment))?;
     match rule {
@@ -99,7 +99,7 @@ fn section_conflict(sliced: &Sliced, rule: Rule, section: &SectionAt) -> Option<
 fn section_address(sliced: &Sliced, section: &SectionAt, segment: &SegmentAt) -> Conflict
     requires section { IsSectionRow (bytes_of sliced.now.held.bytes) section.now }
     requires segment { IsSegmentRow (bytes_of sliced.now.held.bytes) segment.now }
-    ensures { Shows Rule.SectionAddress (bytes_of sliced.now.held.bytes) section.now.place result }
+    ensures { ShowsConflict Rule.SectionAddress (bytes_of sliced.now.held.bytes) section.now.place result }
 {
     let memory = section.memory();
     let own = sliced.numbered(SECTION_MEMORY, memory, section.place, section.index);
@@ -115,7 +115,7 @@ fn section_address(sliced: &Sliced, section: &SectionAt, segment: &SegmentAt) ->
 fn section_file(sliced: &Sliced, section: &SectionAt, segment: &SegmentAt) -> Conflict
     requires section { IsSectionRow (bytes_of sliced.now.held.bytes) section.now }
     requires segment { IsSegmentRow (bytes_of sliced.now.held.bytes) segment.now }
-    ensures { Shows Rule.SectionFile (bytes_of sliced.now.held.bytes) section.now.place result }
+    ensures { ShowsConflict Rule.SectionFile (bytes_of sliced.now.held.bytes) section.now.place result }
 {
     let span = section.file_part();
     let bytes = sliced.described(SECTION_BYTES, span, section.place, section.index);
@@ -135,7 +135,7 @@ fn section_file(sliced: &Sliced, section: &SectionAt, segment: &SegmentAt) -> Co
 // Where the relocations of a section end, and the image.
 fn section_relocs(sliced: &Sliced, section: &SectionAt) -> Conflict
     requires { IsSectionRow (bytes_of sliced.now.held.bytes) section.now }
-    ensures { Shows Rule.SectionRelocs (bytes_of sliced.now.held.bytes) section.now.place result }
+    ensures { ShowsConflict Rule.SectionRelocs (bytes_of sliced.now.held.bytes) section.now.place result }
 {
     let span = Span {
         start: u64::from(section.row.reloff),

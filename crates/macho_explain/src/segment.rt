@@ -3,7 +3,7 @@
 ghost use Rattle.std.specs.Prelude.{◌≡◌, ◌↔◌, ◌<◌, IfSome, IsTrue};
 ghost use Rattle.macho_fields.specs.Bytes.{bytes_of};
 ghost use Rattle.macho_fields.specs.declared.rule.Rule.{Rule};
-ghost use Rattle.macho_explain.specs.Compared.{IsFound, Shows};
+ghost use Rattle.macho_explain.specs.Compared.{IsFound, ShowsConflict};
 ghost use Rattle.macho_explain.specs.Explain.{IsSegmentFound, MeetsSegment, IsSegmentRow};
 
 use crate::conflict::{Conflict, shared};
@@ -128,7 +128,7 @@ pub(crate) fn explain_segment(sliced: &Sliced, rule: Rule, place: u64) -> Option
 // What conflicts with a segment.
 fn segment_conflict(sliced: &Sliced, rule: Rule, segment: &SegmentAt) -> Option<Conflict>
     requires { IsSegmentRow (bytes_of sliced.now.held.bytes) segment.now }
-    ensures { IfSome result (Shows rule (bytes_of sliced.now.held.bytes) segment.now.place) }
+    ensures { IfSome result (ShowsConflict rule (bytes_of sliced.now.held.bytes) segment.now.place) }
 {
     match rule {
         Rule::SegmentAddress => Some(segment_address(sliced, segment)),
@@ -143,7 +143,7 @@ fn segment_conflict(sliced: &Sliced, rule: Rule, segment: &SegmentAt) -> Option<
 // The addresses of a segment, and how many there are from its start on.
 fn segment_address(sliced: &Sliced, segment: &SegmentAt) -> Conflict
     requires { IsSegmentRow (bytes_of sliced.now.held.bytes) segment.now }
-    ensures { Shows Rule.SegmentAddress (bytes_of sliced.now.held.bytes) segment.now.place result }
+    ensures { ShowsConflict Rule.SegmentAddress (bytes_of sliced.now.held.bytes) segment.now.place result }
 {
     let room = (u64::MAX - segment.row.vmaddr).saturating_add(1);
     Conflict::alone(sliced.memory(segment), segment.row.vmsize, room)
@@ -152,7 +152,7 @@ fn segment_address(sliced: &Sliced, segment: &SegmentAt) -> Conflict
 // The sizes of a segment in the file and in memory.
 fn segment_size(sliced: &Sliced, segment: &SegmentAt) -> Conflict
     requires { IsSegmentRow (bytes_of sliced.now.held.bytes) segment.now }
-    ensures { Shows Rule.SegmentSize (bytes_of sliced.now.held.bytes) segment.now.place result }
+    ensures { ShowsConflict Rule.SegmentSize (bytes_of sliced.now.held.bytes) segment.now.place result }
 {
     Conflict::of(
         sliced.segment(segment),
@@ -165,7 +165,7 @@ fn segment_size(sliced: &Sliced, segment: &SegmentAt) -> Conflict
 // Where the file bytes of a segment end, and the image.
 fn segment_file(sliced: &Sliced, segment: &SegmentAt) -> Conflict
     requires { IsSegmentRow (bytes_of sliced.now.held.bytes) segment.now }
-    ensures { Shows Rule.SegmentFile (bytes_of sliced.now.held.bytes) segment.now.place result }
+    ensures { ShowsConflict Rule.SegmentFile (bytes_of sliced.now.held.bytes) segment.now.place result }
 {
     Conflict::past(
         sliced.segment(segment),
@@ -177,7 +177,7 @@ fn segment_file(sliced: &Sliced, segment: &SegmentAt) -> Conflict
 
 // The first earlier segment that has an address of a segment.
 fn segment_overlap(sliced: &Sliced, segment: &SegmentAt) -> Option<Conflict>
-    ensures { IfSome result (Shows Rule.SegmentOverlap (bytes_of sliced.now.held.bytes) segment.now.place) }
+    ensures { IfSome result (ShowsConflict Rule.SegmentOverlap (bytes_of sliced.now.held.bytes) segment.now.place) }
 {
     let own = segment.memory();
     let earlier = find_segment(sliced, SegmentWith::SharingMemory(own, segment.place))?;
@@ -187,7 +187,7 @@ fn segment_overlap(sliced: &Sliced, segment: &SegmentAt) -> Option<Conflict>
 
 // The first earlier segment that has a file byte of a segment.
 fn segment_file_overlap(sliced: &Sliced, segment: &SegmentAt) -> Option<Conflict>
-    ensures { IfSome result (Shows Rule.SegmentFileOverlap (bytes_of sliced.now.held.bytes) segment.now.place) }
+    ensures { IfSome result (ShowsConflict Rule.SegmentFileOverlap (bytes_of sliced.now.held.bytes) segment.now.place) }
 {
     let own = segment.file_part();
     let earlier = find_segment(sliced, SegmentWith::SharingFile(own, segment.place))?;

@@ -31,6 +31,8 @@ use crate::symbol::explain_symbol;
 use crate::table::explain_command;
 use crate::walk::{Walked, walk_end};
 use macho_fat::{Slice, slice_at};
+use macho_fields::header::loader::load_command::CMDSIZE;
+use macho_fields::header::loader::mach_header_64::SIZEOFCMDS;
 use macho_fields::header::loader::{LOAD_COMMAND_SIZE, MACH_HEADER_64_SIZE};
 use macho_fields::{Bytes, Order, Profile, Rule, Span};
 use macho_rows::span::{Held, held_at};
@@ -347,8 +349,3 @@ impl<'a> Sliced<'a> {
         }
     }
 }
-
-// The offset of `sizeofcmds` in `mach_header_64`, and of `cmdsize` in a command.
-const SIZEOFCMDS: u64 = 20;
-
-const CMDSIZE: u64 = 4;

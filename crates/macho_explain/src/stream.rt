@@ -4,7 +4,7 @@
 ghost use Rattle.std.specs.Prelude.{◌≡◌, IfSome};
 ghost use Rattle.macho_fields.specs.Bytes.{bytes_of};
 ghost use Rattle.macho_fields.specs.declared.rule.Rule.{Rule};
-ghost use Rattle.macho_explain.specs.Compared.{IsFound, Shows};
+ghost use Rattle.macho_explain.specs.Compared.{IsFound, ShowsConflict};
 
 use crate::conflict::Conflict;
 use crate::part::{NO_INDEX, OPCODE, Part, below_zero, clamped};
@@ -154,7 +154,7 @@ fn opcode_conflict(
     place: u64,
 ) -> Option<Conflict>
     requires { image.now ≡ bytes_of sliced.now.held.bytes }
-    ensures { IfSome result (Shows rule (bytes_of sliced.now.held.bytes) place) }
+    ensures { IfSome result (ShowsConflict rule (bytes_of sliced.now.held.bytes) place) }
 {
     let table = stream.table.part;
     match rule {

@@ -6,7 +6,7 @@ ghost use Rattle.macho_fields.specs.Image.{commands_of};
 ghost use Rattle.macho_fields.specs.Segment.{section_count};
 ghost use Rattle.macho_fields.specs.declared.rule.Rule.{Rule};
 ghost use Rattle.macho_image.specs.Symbol.{symbols_of, symbol_at};
-ghost use Rattle.macho_explain.specs.Compared.{IsFound, IsSpot, Shows};
+ghost use Rattle.macho_explain.specs.Compared.{IsFound, IsSpot, ShowsConflict};
 ghost use Rattle.macho_explain.specs.Explain.{no_index};
 
 use crate::conflict::Conflict;
@@ -50,7 +50,7 @@ fn symbol_conflict(
     symbol: Symbol,
 ) -> Option<Conflict>
     requires { symbol ≡ symbol_at image.now place }
-    ensures { IfSome result (Shows rule image.now place) }
+    ensures { IfSome result (ShowsConflict rule image.now place) }
 {
     match rule {
         Rule::SymbolName => Some(symbol_name(sliced, place, u64::from(symbol.strx))),

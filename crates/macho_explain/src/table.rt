@@ -6,7 +6,7 @@ ghost use Rattle.macho_fields.specs.Bytes.{bytes_of};
 ghost use Rattle.macho_fields.specs.LoadCommands.{structure_of, table_fields};
 ghost use Rattle.macho_fields.specs.declared.load_command.Width.TheVariants.{Uint32};
 ghost use Rattle.macho_fields.specs.declared.rule.Rule.{Rule};
-ghost use Rattle.macho_explain.specs.Compared.{IsFound, IsThreadShown, Shows};
+ghost use Rattle.macho_explain.specs.Compared.{IsFound, IsThreadShown, ShowsConflict};
 ghost use Rattle.macho_explain.specs.Explain.{IsOfBytes, IsWalked, MeetsLimit, word_at};
 ghost use Rattle.macho_rows.specs.Loads.{IsLoad};
 ghost use Rattle.macho_explain.specs.declared.walk.Sought.TheVariants as sought;
@@ -20,6 +20,7 @@ use crate::spot::{Spot, command_spot};
 use crate::walk::{Sought, Walked, walk_to};
 use macho_commands::content_of;
 use macho_commands::loader::{LC_THREAD, LC_UNIXTHREAD};
+use macho_fields::header::loader::entry_point_command::ENTRYOFF;
 use macho_fields::header::loader::{LC_STR_OFFSET, LC_SYMTAB};
 use macho_fields::{Rule, Span, TableFields, Width, structure_of, table_end};
 use macho_rows::load::Load;
@@ -39,7 +40,7 @@ pub(crate) fn explain_command(sliced: &Sliced, rule: Rule, place: u64) -> Option
 // What conflicts with a command.
 fn command_conflict(sliced: &Sliced, rule: Rule, walked: &Walked) -> Option<Conflict>
     requires { IsLoad (bytes_of sliced.now.held.bytes) walked.now.load }
-    ensures { IfSome result (Shows rule (bytes_of sliced.now.held.bytes) walked.now.load.place) }
+    ensures { IfSome result (ShowsConflict rule (bytes_of sliced.now.held.bytes) walked.now.load.place) }
 {
     let command = sliced.command(walked);
     let load = walked.load;
@@ -257,9 +258,6 @@ fn symbol_group(sliced: &Sliced, load: Load) -> Option<Conflict> {
     }
     None
 }
-
-// The offset of `entryoff` in `entry_point_command`.
-const ENTRYOFF: u64 = 8;
 
 // The segment with the base, and the one with the address of the entry.
 fn entry(sliced: &Sliced, load: Load) -> Conflict

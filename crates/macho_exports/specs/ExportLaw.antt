@@ -1,10 +1,10 @@
 -- What the export trie of an image promises that breaks none of its rules.
-use Rattle.std.specs.Prelude.{◌≡◌, ℕ, ◌+◌, ◌-◌, ◌^◌, ◌≤◌, ◌<◌, ◌⊎◌, List, [], ◌∷◌, length, All, Contains, Option, Some, IfSome, true}
+use Rattle.std.specs.Prelude.{◌≡◌, ℕ, ◌+◌, ◌-◌, ◌^◌, ◌≤◌, ◌<◌, ◌⊎◌, List, [], ◌∷◌, length, Contains, Option, Some, IfSome, true}
 use Rattle.std.specs.Option.{option_map_or}
 use Rattle.macho_fields.specs.Field.{part}
 use Rattle.macho_fields.specs.Image.{commands_of}
 use Rattle.macho_fields.specs.Segment.{base_of}
-use Rattle.macho_fields.specs.Universal.{slices_of, slice_bytes, IsImage}
+use Rattle.macho_fields.specs.Universal.{OfEachImage}
 use Rattle.macho_spans.specs.declared.span.Span.{Span}
 use Rattle.macho_exports.specs.ExportTrie.{Node, node_at, terminal_from, find_terminal}
 use Rattle.macho_exports.specs.ExportWalk.{Met, met_nodes, children, whole_export}
@@ -74,5 +74,4 @@ AreSoundExports image =
 
 -- of a file: that of each 64-bit slice is
 abbrev pub HasSoundExports : List ℕ → Type 0
-HasSoundExports file =
-    All (λ slice. IsImage (slice_bytes file slice) → AreSoundExports (slice_bytes file slice)) (slices_of file)
+HasSoundExports = OfEachImage AreSoundExports

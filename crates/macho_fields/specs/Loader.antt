@@ -3,7 +3,7 @@
 use Rattle.std.specs.Prelude.{◌≡◌, ◌≢◌, ℕ, ◌+◌, ◌*◌, ◌≤◌, ◌<◌, ◌⊎◌, List, length, false, Any, slice_index, Some, All, Contains, slice_get, IsSomeAnd}
 use Rattle.macho_fields.specs.Field.{HasZero}
 use Rattle.macho_spans.specs.Span.{Covers}
-use Rattle.macho_fields.specs.Universal.{FileSlice, slices_of, slice_bytes, HasPlace, IsImage, IsUniversal, table_end}
+use Rattle.macho_fields.specs.Universal.{FileSlice, slices_of, HasPlace, IsUniversal, table_end, OfEachImage}
 use Rattle.macho_fields.specs.Image.{command_size, with_cmd, AreCommands}
 use Rattle.macho_fields.specs.Command.{HasStructure, least_size, IsNamed, name_start}
 use Rattle.macho_fields.specs.Segment.{segments_of, sections_in, fileoff, filesize, section_size, section_offset, reloff, nreloc, is_zero_fill, vmsize, section_address, Supplies, File, source, base_of, entryoff, IsExecutable}
@@ -106,9 +106,8 @@ pub record IsSoundImage (image commands : List ℕ) : Type 0 where
 -- of a file
 pub record IsSound (file : List ℕ) : Type 0 where
   -- each 64-bit slice is a sound image
-  pub images : All (λ slice. IsImage (slice_bytes file slice)
-      → (commands : List ℕ) × AreCommands (slice_bytes file slice) commands
-      × IsSoundImage (slice_bytes file slice) commands) (slices_of file)
+  pub images : OfEachImage (λ image. (commands : List ℕ) × AreCommands image commands
+      × IsSoundImage image commands) file
   -- each slice lies in the file
   pub inside : All (λ slice. slice.start + slice.size ≤ length file) (slices_of file)
   -- no place lies in two slices

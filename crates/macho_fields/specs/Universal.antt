@@ -1,6 +1,6 @@
 -- A universal file, and the slices of any file. The fields of a universal header are big-endian.
 -- (mach-o/fat.h: fat_header, fat_arch, fat_arch_64)
-use Rattle.std.specs.Prelude.{◌≡◌, ℕ, ◌+◌, ◌*◌, ◌%◌, ◌^◌, ◌≤◌, ◌<◌, ◌⊎◌, ◌==◌, ◌||◌, List, [], ◌∷◌, map, length, slice_get, Option, Some, None, IsSomeAnd, Bool, IsTrue, if◌then◌else◌}
+use Rattle.std.specs.Prelude.{◌≡◌, ℕ, ◌+◌, ◌*◌, ◌%◌, ◌^◌, ◌≤◌, ◌<◌, ◌⊎◌, ◌==◌, ◌||◌, List, [], ◌∷◌, map, length, slice_get, Option, Some, None, IsSomeAnd, All, Bool, IsTrue, if◌then◌else◌}
 use Rattle.std.specs.List.{range_with_len}
 use Rattle.macho_fields.specs.Field.{number, part}
 use Rattle.macho_spans.specs.Span.{Covers}
@@ -98,6 +98,11 @@ IsForeign bytes = ¬ (IsImage bytes ⊎ IsUnreadImage bytes)
 abbrev pub HasImage : List ℕ → ℕ → Type 0
 HasImage file index =
     IsSomeAnd (slice_get (slices_of file) index) (λ slice. IsImage (slice_bytes file slice))
+
+-- each image of the file, that in each 64-bit slice, has P
+abbrev pub OfEachImage : (List ℕ → Type 0) → List ℕ → Type 0
+OfEachImage P file =
+    All (λ slice. IsImage (slice_bytes file slice) → P (slice_bytes file slice)) (slices_of file)
 
 -- What the rules of a file say of an entry of its table
 

@@ -12,6 +12,7 @@ use crate::command::{Commands, word_in};
 use crate::image::Image;
 use macho_fields::Bytes;
 use macho_fields::header::loader::LC_BUILD_VERSION;
+use macho_fields::header::loader::build_version_command::{MINOS, PLATFORM, SDK};
 use std::marker::Model;
 
 /// An `LC_BUILD_VERSION` command: a platform and its versions. (`build_version_command`)
@@ -75,13 +76,6 @@ impl<'a> Image<'a> {
         }
     }
 }
-
-// The offsets of the fields in `build_version_command`.
-const PLATFORM: u64 = 8;
-
-const MINOS: u64 = 12;
-
-const SDK: u64 = 16;
 
 // The `build_version_command` at `place`.
 fn build_from(image: Bytes, place: u64) -> Build

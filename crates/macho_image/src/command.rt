@@ -8,6 +8,7 @@ ghost use Rattle.macho_image.specs.Command.{command_of, command_at, command_name
 ghost use Rattle.macho_image.specs.Views.{HoldsName};
 
 use macho_fields::header::loader::LC_STR_OFFSET;
+use macho_fields::header::loader::load_command::CMDSIZE;
 use macho_fields::{Bytes, Order, Span};
 use std::marker::Model;
 
@@ -95,9 +96,6 @@ pub(crate) fn command_from(image: Bytes, place: u64) -> Command
         bytes: image.read_part(span),
     }
 }
-
-// The offset of `cmdsize` in a command.
-pub(crate) const CMDSIZE: u64 = 4;
 
 // The 32-bit field at `place`.
 pub(crate) fn word_at(bytes: Bytes, place: u64) -> u32

@@ -9,7 +9,7 @@ ghost use Rattle.macho_image.specs.Walk.{AreLandmarks, IsAt, IsRange, Repeats};
 
 use crate::command::{Command, command_from, word_at};
 use crate::unique::UniquePlaces;
-use crate::walk::NCMDS;
+use macho_fields::header::loader::mach_header_64::NCMDS;
 use macho_fields::header::loader::{LC_SEGMENT_64, MACH_HEADER_64_SIZE};
 use macho_fields::{Bytes, Structure, structure_of};
 

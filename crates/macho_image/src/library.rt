@@ -12,6 +12,7 @@ ghost use Rattle.macho_image.specs.Views.{HoldsLibrary};
 use crate::command::{Command, Commands, name_of, word_at, word_in};
 use crate::image::Image;
 use macho_fields::header::loader::LC_ID_DYLIB;
+use macho_fields::header::loader::dylib_command::{COMPATIBILITY_VERSION, CURRENT_VERSION};
 use macho_fields::{Bytes, names_library};
 use std::marker::Model;
 
@@ -98,11 +99,6 @@ fn next_library<'a>(commands: &mut Commands<'a>) -> Option<Command<'a>>
     }
     None
 }
-
-// The offsets of the fields in `dylib_command`.
-const CURRENT_VERSION: u64 = 16;
-
-const COMPATIBILITY_VERSION: u64 = 20;
 
 // The `dylib_command` at `place`.
 fn dylib_from(image: Bytes, place: u64) -> Dylib

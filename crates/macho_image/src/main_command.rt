@@ -13,6 +13,7 @@ use crate::command::long_in;
 use crate::image::Image;
 use macho_fields::Bytes;
 use macho_fields::header::loader::LC_MAIN;
+use macho_fields::header::loader::entry_point_command::{ENTRYOFF, STACKSIZE};
 
 /// The `LC_MAIN` command. (`entry_point_command`)
 #[derive(Clone, Copy, Debug, PartialEq, Eq)]
@@ -35,11 +36,6 @@ impl<'a> Image<'a> {
         Some(main_command_from(self.bytes(), place))
     }
 }
-
-// The offsets of the fields in `entry_point_command`.
-const ENTRYOFF: u64 = 8;
-
-const STACKSIZE: u64 = 16;
 
 // The `entry_point_command` at `place`.
 fn main_command_from(image: Bytes, place: u64) -> MainCommand

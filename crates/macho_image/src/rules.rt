@@ -15,7 +15,8 @@ ghost use Rattle.macho_image.specs.Walk.{breaks_of, AreFirst, IsAlone};
 
 use crate::command::{Command, word_at};
 use crate::unique::UniquePlaces;
-use crate::walk::{Candidate, FILETYPE, listed_file_type};
+use crate::walk::{Candidate, listed_file_type};
+use macho_fields::header::loader::mach_header_64::FILETYPE;
 use macho_fields::header::loader::{LC_ID_DYLIB, LC_STR_OFFSET};
 use macho_fields::{Break, Bytes, Order, Rule, Span, Structure};
 

@@ -11,6 +11,9 @@ use crate::command::{long_in, word_in};
 use crate::image::Image;
 use crate::items::Items;
 use crate::segment::{Segment, Segments, short_name};
+use macho_fields::header::loader::section_64::{
+    ADDR, ALIGN, FLAGS, NRELOC, OFFSET, RELOFF, RESERVED1, RESERVED2, SECTNAME, SIZE,
+};
 use macho_fields::header::loader::{
     S_GB_ZEROFILL, S_THREAD_LOCAL_ZEROFILL, S_ZEROFILL, SECTION_TYPE,
 };
@@ -61,7 +64,7 @@ impl<'a> Section<'a> {
     pub fn name(&self) -> &'a [u8]
         ensures { result.now ≡ section_name self.now.image self.now.place }
     {
-        short_name(self.image, self.place, SECTION_NAME)
+        short_name(self.image, self.place, SECTNAME)
     }
 
     /// The address at which it begins in memory.
@@ -270,24 +273,3 @@ impl<'a> Image<'a> {
         }
     }
 }
-
-// The offsets of the fields in `section_64`.
-const SECTION_NAME: u64 = 0;
-
-const ADDR: u64 = 32;
-
-const SIZE: u64 = 40;
-
-const OFFSET: u64 = 48;
-
-const ALIGN: u64 = 52;
-
-const RELOFF: u64 = 56;
-
-const NRELOC: u64 = 60;
-
-const FLAGS: u64 = 64;
-
-const RESERVED1: u64 = 68;
-
-const RESERVED2: u64 = 72;

@@ -13,8 +13,12 @@ use crate::command::{Command, Commands, long_in, word_in};
 use crate::image::Image;
 use crate::items::Items;
 use crate::section::Sections;
-use macho_fields::header::loader::segment_command_64::NSECTS;
-use macho_fields::header::loader::{LC_SEGMENT_64, SECTION_64_SIZE, SEGMENT_COMMAND_64_SIZE};
+use macho_fields::header::loader::segment_command_64::{
+    FILEOFF, FILESIZE, INITPROT, MAXPROT, NSECTS, SEGNAME, VMADDR, VMSIZE,
+};
+use macho_fields::header::loader::{
+    LC_SEGMENT_64, SECTION_64_SIZE, SEGMENT_COMMAND_64_SIZE, SHORT_NAME_SIZE,
+};
 use macho_fields::{Bytes, Span};
 use std::marker::Model;
 
@@ -70,7 +74,7 @@ impl<'a> Segment<'a> {
     pub fn name(&self) -> &'a [u8]
         ensures { result.now ≡ segment_name self.now.image self.now.place }
     {
-        short_name(self.image, self.place, SEGMENT_NAME)
+        short_name(self.image, self.place, SEGNAME)
     }
 
     /// The address at which it begins in memory.
@@ -247,21 +251,3 @@ pub(crate) fn short_name(image: Bytes, structure: u64, offset: u64) -> &[u8]
         None => image.read_part(whole),
     }
 }
-
-// The size in bytes of the name of a segment or a section.
-const SHORT_NAME_SIZE: u64 = 16;
-
-// The offsets of the fields in `segment_command_64`.
-const SEGMENT_NAME: u64 = 8;
-
-const VMADDR: u64 = 24;
-
-const VMSIZE: u64 = 32;
-
-const FILEOFF: u64 = 40;
-
-const FILESIZE: u64 = 48;
-
-const MAXPROT: u64 = 56;
-
-const INITPROT: u64 = 60;

@@ -9,8 +9,9 @@ ghost use Rattle.macho_image.specs.Walk.{breaks_of, CanPass, HasPassed, HasPasse
 use crate::command::{command_from, word_at};
 use crate::landmarks::Landmarks;
 use crate::rules::{has_bad_name, is_short};
-use crate::walk::{Candidate, NCMDS, end_of_commands, next_command};
+use crate::walk::{Candidate, end_of_commands, next_command};
 use macho_fields::header::loader::MACH_HEADER_64_SIZE;
+use macho_fields::header::loader::mach_header_64::NCMDS;
 use macho_fields::{Break, FirstPlace, Rule, structure_of};
 
 // What the walk has found of the commands that it has passed: the first that breaks each rule of

@@ -12,21 +12,14 @@ ghost use Rattle.macho_fields.specs.declared.rule.Rule.{Rule};
 ghost use Rattle.macho_image.specs.Command.{command_at};
 ghost use Rattle.macho_image.specs.Walk.{breaks_of};
 
-use crate::command::{CMDSIZE, Commands, word_at};
+use crate::command::{Commands, word_at};
+use macho_fields::header::loader::load_command::CMDSIZE;
+use macho_fields::header::loader::mach_header_64::{
+    CPUSUBTYPE, CPUTYPE, FILETYPE, NCMDS, SIZEOFCMDS,
+};
 use macho_fields::header::loader::{LOAD_COMMAND_SIZE, MACH_HEADER_64_SIZE};
 use macho_fields::header::machine::CPU_SUBTYPE_MASK;
 use macho_fields::{Break, Bytes, FileType, Rule, file_type_of};
-
-// The offsets of the fields of `mach_header_64`.
-const CPUTYPE: u64 = 4;
-
-const CPUSUBTYPE: u64 = 8;
-
-pub(crate) const FILETYPE: u64 = 12;
-
-pub(crate) const NCMDS: u64 = 16;
-
-const SIZEOFCMDS: u64 = 20;
 
 // What may be opened: the bytes of an image, and the `cputype` and the `cpusubtype` that a universal
 // file gives for it.

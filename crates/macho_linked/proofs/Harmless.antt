@@ -1,5 +1,5 @@
 -- An image that breaks no rule asks a loader for harmless writes alone.
-use Rattle.std.proofs.Common.{◌≡◌, ℕ, suc, zero, ◌+◌, ◌-◌, ◌≤◌, ◌<◌, List, [], ◌∷◌, ◌++◌, length, get_or, slice_get, All, Contains, Option, Some, None, true, refl, sym, ◌∙◌, subst, arith, inl, inr}
+use Rattle.std.proofs.Common.{◌≡◌, ℕ, suc, zero, ◌+◌, ◌-◌, ◌≤◌, ◌<◌, List, [], ◌∷◌, ◌++◌, length, get_or, slice_get, Contains, Option, Some, None, true, refl, sym, ◌∙◌, subst, arith, inl, inr}
 use Rattle.std.specs.Prelude.{slice_index}
 use Rattle.std.proofs.Math.Nat.{mul-le-mul_right}
 use Rattle.std.proofs.lemmas.Bool.{cases_Bool, cases_lt, cases_eq}
@@ -12,19 +12,19 @@ use Rattle.macho_fields.specs.Layers.{NothingBreaks}
 use Rattle.macho_fields.specs.Rules as layout
 use Rattle.macho_fields.specs.Segment.{all_segments, filesize}
 use Rattle.macho_fields.specs.Symbol.{table_at}
-use Rattle.macho_fields.specs.Universal.{slices_of, slice_bytes, IsImage}
+use Rattle.macho_fields.specs.Universal.{slices_of, slice_bytes, OfEachImage}
 use Rattle.macho_fields.specs.declared.rule.Rule.TheVariants as rule
 use Rattle.macho_fields.proofs.Options.{some_of, of_some}
-use Rattle.macho_fields.proofs.Ranks.{image_alone}
-use Rattle.macho_fields.proofs.Scopes.{of_slice}
 use Rattle.macho_rules.proofs.Searches.{mapped_has}
+use Rattle.macho_rules.proofs.Profiles.{images_keep, layout_keeps}
 use Rattle.macho_rules.proofs.Verdicts.{unbroken_image_sound}
+use Rattle.macho_rules.specs.Profile.{NoFileRule}
 use Rattle.macho_linked.specs.Cursor.{cursor_after, writes}
 use Rattle.macho_linked.specs.Harmless.{all_streams, streams_of, IsStream, SaysAt, IsSlot, IsHarmless, AreHarmless}
 use Rattle.macho_linked.specs.Images.{Undecoded, NoLibrary, NoName, NoSlot, TooMany, InTable, InStream, InRebases, InBinds, InBindsOf, opcodes_of, fields_of}
 use Rattle.macho_tables.specs.Places.{dyld_info}
 use Rattle.macho_tables.specs.Limits.{room, rooms_of, budget_of, library_count}
-use Rattle.macho_linked.specs.Rules.{BreaksFile, BreaksSlice, BreaksImage, IsLinkedUnbroken}
+use Rattle.macho_linked.specs.Rules.{BreaksImage, IsLinkedUnbroken}
 use Rattle.macho_tables.specs.Segments.{is_writable}
 use Rattle.macho_linked.specs.Steps.{step_at, AreStepsFrom, AreSteps}
 use Rattle.macho_linked.specs.Streams.{pointers, EndsInRoom, reach}
@@ -207,14 +207,9 @@ module _ (image : List ℕ) (kept : NothingBreaks (BreaksImage image)) where
 
 -- what holds of each image that breaks no rule holds of the images of such a file
 pub of_images : (P : List ℕ → Type 0) → ((image : List ℕ) → NothingBreaks (BreaksImage image) → NothingBreaks (layout.BreaksImage image None) → P image)
-    → (file : List ℕ) → IsUnbroken file → IsLinkedUnbroken file → All (λ slice. IsImage (slice_bytes file slice) → P (slice_bytes file slice)) (slices_of file)
+    → (file : List ℕ) → IsUnbroken file → IsLinkedUnbroken file → OfEachImage P file
 of_images P each file unbroken linked k d less image =
-    let slice = get_or (slices_of file) k d in
-    let at = slice_get-get_or (slices_of file) k d less in
-    each (slice_bytes file slice)
-    (λ r place broken. linked (record { scope = suc k; rule = r; place = place }) (of_slice BreaksFile BreaksSlice file k slice at image r place broken))
-    (λ r place broken. unbroken (record { scope = suc k; rule = r; place = place })
-    (of_slice layout.BreaksFile layout.BreaksImage file k slice at image r place (image_alone (slice_bytes file slice) slice.arch r place broken)))
+    each (slice_bytes file (get_or (slices_of file) k d)) (images_keep file NoFileRule BreaksImage linked k d less image) (layout_keeps file unbroken k d less image)
 
 pub harmless_file : (file : List ℕ) → IsUnbroken file → IsLinkedUnbroken file → AreHarmless file
 harmless_file = of_images IsHarmless harmless_image

@@ -1,14 +1,12 @@
 -- The place of a break of a linked rule lies in the image.
-use Rattle.std.proofs.Common.{◌≡◌, ℕ, ◌+◌, ◌≤◌, ◌<◌, List, length, drop, slice_get, Contains, None, Some, refl, ap, ◌∙◌, arith, inl, inr, length-drop}
+use Rattle.std.proofs.Common.{◌≡◌, ℕ, ◌+◌, ◌≤◌, ◌<◌, List, length, drop, Contains, None, refl, arith, inl, inr, length-drop}
 use Rattle.std.proofs.lemmas.List.{length-take}
 use Rattle.macho_fields.specs.Field.{part}
-use Rattle.macho_fields.specs.First.{IsUnbroken}
 use Rattle.macho_fields.specs.Image.{commands_of}
 use Rattle.macho_fields.specs.Layers.{NothingBreaks}
 use Rattle.macho_fields.specs.Rules.{BreaksImage as Breaks}
 use Rattle.macho_fields.specs.LoadCommands.{linkedit_data_table}
 use Rattle.macho_fields.specs.Symbol.{table_at}
-use Rattle.macho_fields.specs.Universal.{FileSlice, slices_of, slice_bytes}
 use Rattle.macho_fields.specs.declared.header.loader.TheConstants as loader
 use Rattle.macho_fields.specs.declared.rule.Rule.{Rule}
 use Rattle.macho_fields.specs.declared.rule.Rule.TheVariants as rule
@@ -16,7 +14,7 @@ use Rattle.macho_fields.proofs.Opened.{command_inside}
 use Rattle.macho_fields.proofs.Options.{some_of}
 use Rattle.macho_image.proofs.ReadParts.{length-part}
 use Rattle.macho_rules.proofs.Judged.{opened_facts, opened_commands}
-use Rattle.macho_rules.proofs.Verdicts.{file_inside, unbroken_opened}
+use Rattle.macho_rules.proofs.Verdicts.{unbroken_opened}
 use Rattle.macho_chains.specs.Chains.{chained_fixups, NoHeader, BadStarts, BadImports, LongNames, UnknownLibrary, InNoBytes}
 use Rattle.macho_linked.specs.Images.{opcodes_of, fields_of, Undecoded, NoLibrary, NoName, NoSlot, TooMany, TooLong, InStream, InRebases, InBindsOf, InBinds}
 use Rattle.macho_tables.specs.Places.{dyld_info}
@@ -38,7 +36,7 @@ use Rattle.macho_image.specs.Symbol.{symbol_at}
 use Rattle.macho_signature.specs.Signature.{BadDirectory, PartialDirectory, InSignature}
 use Rattle.macho_signature.specs.Superblobs.{BadBlob}
 use Rattle.macho_signature.proofs.Images.{blob_near, directory_near, whole_near}
-use Rattle.macho_symbols.specs.Symbols.{LacksLibrary, IsAstray, IsEndless}
+use Rattle.macho_symbols.specs.Symbols.{LacksLibrary, IsAstraySymbol, IsEndless}
 use Rattle.macho_symbols.proofs.Near.{symbol_near, relocation_near}
 
 part_short : (start size : ℕ) (bytes : List ℕ) (offset : ℕ) → offset < length (part start size bytes) → start + offset ≤ length bytes
@@ -122,17 +120,9 @@ module _ (image : List ℕ) (none : NothingBreaks (Breaks image None)) where
   place_inside rule.SignatureDirectory place broken = signature_inside BadDirectory directory_near place broken
   place_inside rule.SignatureWhole place broken = signature_inside PartialDirectory whole_near place broken
   place_inside rule.SymbolLibrary place broken = symbol_near image none (λ symtab symbol. LacksLibrary image (symbol_at image symbol)) place broken
-  place_inside rule.SymbolValue place broken = symbol_near image none (λ symtab symbol. IsAstray image (symbol_at image symbol)) place broken
+  place_inside rule.SymbolValue place broken = symbol_near image none (λ symtab symbol. IsAstraySymbol image (symbol_at image symbol)) place broken
   place_inside rule.SymbolIndirect place broken = symbol_near image none (λ symtab symbol. IsEndless image symtab (symbol_at image symbol)) place broken
   place_inside rule.Relocation place broken = relocation_near image none place broken
   place_inside rule.Thread place broken = listed_inside place broken.0
   place_inside rule.CommandContent place broken = listed_inside place broken.0
   place_inside other place broken = absurd broken
-
--- and so in the file
-pub place_in_file : (file image : List ℕ) (k : ℕ) (slice : FileSlice) → Some slice ≡ slice_get (slices_of file) k → IsUnbroken file → image ≡ slice_bytes file slice
-    → (place : ℕ) → place ≤ length image → slice.start + place ≤ length file
-place_in_file file image k slice at unbroken same place near =
-    let inside = file_inside file unbroken k slice at in
-    let counted : length image ≡ slice.size = ap length same ∙ length-part slice.start slice.size file inside in
-    omega (arith, near, inside, counted)

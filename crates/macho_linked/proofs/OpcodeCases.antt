@@ -3,7 +3,7 @@ use Rattle.std.proofs.Common.{◌≡◌, ℕ, ◌*◌, ◌<◌, ◌==◌, Bool, 
 use Rattle.std.specs.Prelude.{cond, bit_and}
 use Rattle.std.proofs.lemmas.Bool.{cases_Bool, eqb-true}
 use Rattle.std.proofs.lemmas.Nat.{and_mask}
-use Rattle.macho_linked.specs.Dyld.{IsLast}
+use Rattle.macho_linked.specs.Dyld.{IsLastSegment}
 use Rattle.macho_linked.specs.Steps.{with_number, with_count_and_skip, with_addend, with_name, pointer_type, last_step, special_step, rebase_step, bind_step, opcode_step}
 use Rattle.macho_linked.specs.declared.step.Opcodes.{Opcodes}
 use Rattle.macho_linked.specs.declared.step.Opcodes.TheVariants as opcodes
@@ -72,7 +72,7 @@ module _ (Alike : Option (Step × ℕ) → Option (Step × ℕ) → Type 0) wher
         (case (is_code 0xb0) _ _ _ _ (λ is. same.plain (step.Write 1 (imm * 8)) tt)
         (case (is_code 0xc0) _ _ _ _ (λ is. same.numbers) same.none)))))))))))
 
-    pub opcode_alike : (of : Opcodes) → (IsLast of byte → Alike (last_step xs next) (last_step ys next)) → Alike (opcode_step of xs byte next) (opcode_step of ys byte next)
+    pub opcode_alike : (of : Opcodes) → (IsLastSegment of byte → Alike (last_step xs next) (last_step ys next)) → Alike (opcode_step of xs byte next) (opcode_step of ys byte next)
     opcode_alike opcodes.Rebase last = rebase_alike (λ is. last (eqb-true (bit_and byte 0xf0) 0 is))
     opcode_alike opcodes.Bind last = case (bit_and byte 0xf0 == 0) _ _ _ _ (λ is. last (eqb-true (bit_and byte 0xf0) 0 is)) bind_alike
     opcode_alike opcodes.LazyBind last = case (bit_and byte 0xf0 == 0) _ _ _ _ (λ is. same.plain step.Done tt) bind_alike

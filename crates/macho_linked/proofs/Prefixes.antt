@@ -8,7 +8,7 @@ use Rattle.std.proofs.lemmas.List.{get_or_append_left, take-append-le, drop-appe
 use Rattle.std.proofs.lemmas.List.Sums.{position_or_len_is, fails_before_first, passes_at_first}
 use Rattle.std.proofs.lemmas.Option.{slice_get_within, slice_get-get_or, get_or_from_slice_get}
 use Rattle.macho_fields.specs.Field.{string_from}
-use Rattle.macho_linked.specs.Dyld.{IsLast}
+use Rattle.macho_linked.specs.Dyld.{IsLastSegment}
 use Rattle.macho_tables.specs.Numbers.{number_bytes, unsigned_at, signed_at}
 use Rattle.macho_linked.specs.Steps.{with_number, with_count_and_skip, with_addend, with_name, opcode_step, step_at}
 use Rattle.macho_linked.specs.declared.step.Opcodes.{Opcodes}
@@ -130,9 +130,9 @@ module _ (xs ys : List ℕ) where
     name = λ flags. named Last next inside flags;
   }
 
-  opcode_same : (of : Opcodes) (next byte : ℕ) → next ≤ length xs → Same (IsLast of byte) (opcode_step of xs byte next) (opcode_step of (xs ++ ys) byte next)
+  opcode_same : (of : Opcodes) (next byte : ℕ) → next ≤ length xs → Same (IsLastSegment of byte) (opcode_step of xs byte next) (opcode_step of (xs ++ ys) byte next)
   opcode_same of next byte inside =
-      opcode_alike (Same (IsLast of byte)) xs (xs ++ ys) next (operands_same (IsLast of byte) next inside) byte of (λ last. record { same = λ r is. inl last })
+      opcode_alike (Same (IsLastSegment of byte)) xs (xs ++ ys) next (operands_same (IsLastSegment of byte) next inside) byte of (λ last. record { same = λ r is. inl last })
 
   byte_there : (place byte : ℕ) → slice_get xs place ≡ Some byte → slice_get (xs ++ ys) place ≡ Some byte
   byte_there place byte is =
@@ -142,15 +142,15 @@ module _ (xs ys : List ℕ) where
       slice_get-get_or (xs ++ ys) place 0 less ∙ ap Some (get_or_append_left xs ys 0 place inside ∙ get_or_from_slice_get xs place byte 0 is)
 
   step_by : (of : Opcodes) (place : ℕ) (byte : Option ℕ) → slice_get xs place ≡ byte → (r : Step × ℕ) → option_and_then (λ b. opcode_step of xs b (place + 1)) byte ≡ Some r
-      → IsLast of (get_or xs place 0) ⊎ (option_and_then (λ b. opcode_step of (xs ++ ys) b (place + 1)) (slice_get (xs ++ ys) place) ≡ Some r)
+      → IsLastSegment of (get_or xs place 0) ⊎ (option_and_then (λ b. opcode_step of (xs ++ ys) b (place + 1)) (slice_get (xs ++ ys) place) ≡ Some r)
   step_by of place None is r some = absurd (cc)
   step_by of place (Some byte) is r some =
       let inside = slice_get_within xs place byte is in
       elim ((opcode_same of (place + 1) byte (omega arith)).same r some) [
-        | inl last ↦ inl (subst (IsLast of) (sym (get_or_from_slice_get xs place byte 0 is)) last)
+        | inl last ↦ inl (subst (IsLastSegment of) (sym (get_or_from_slice_get xs place byte 0 is)) last)
         | inr same ↦ inr (rw (byte_there place byte is) same)
       ]
 
-  pub step_same : (of : Opcodes) (place : ℕ) (r : Step × ℕ) → step_at of xs place ≡ Some r → IsLast of (get_or xs place 0) ⊎ (step_at of (xs ++ ys) place ≡ Some r)
+  pub step_same : (of : Opcodes) (place : ℕ) (r : Step × ℕ) → step_at of xs place ≡ Some r → IsLastSegment of (get_or xs place 0) ⊎ (step_at of (xs ++ ys) place ≡ Some r)
   unfolding step_at
   step_same of place r is = step_by of place (slice_get xs place) refl r is

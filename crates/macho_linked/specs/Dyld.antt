@@ -2,10 +2,10 @@
 -- Memory has a byte for each address, and is that of an image loaded at its base, which is where the segments
 -- named __TEXT are (header-home). The loader takes segments as the headers of the file have them: these lie in
 -- memory that stays as it is in the file (header-home, IsKept).
-use Rattle.std.specs.Prelude.{◌≡◌, ℕ, zero, suc, ◌+◌, ◌*◌, ◌≤◌, ◌<◌, ◌⊎◌, List, length, All, Any, Contains, Some, true, slice_get, slice_index, bit_and, IsSomeAnd}
+use Rattle.std.specs.Prelude.{◌≡◌, ℕ, zero, suc, ◌+◌, ◌*◌, ◌≤◌, ◌<◌, ◌⊎◌, List, length, Any, Contains, Some, true, slice_get, slice_index, bit_and, IsSomeAnd}
 use Rattle.macho_fields.specs.Field.{part}
 use Rattle.macho_fields.specs.Segment.{all_segments, vmaddr, fileoff, filesize}
-use Rattle.macho_fields.specs.Universal.{slices_of, slice_bytes, IsImage}
+use Rattle.macho_fields.specs.Universal.{OfEachImage}
 use Rattle.macho_linked.specs.Cursor.{start, moved, cursor_after, writes}
 use Rattle.macho_linked.specs.Harmless.{streams_of}
 use Rattle.macho_tables.specs.Places.{dyld_info}
@@ -34,9 +34,9 @@ Takes of memory home place said after =
     (n : ℕ) × (step_at of (bytes_from memory home n) place ≡ Some (said, after))
 
 -- the opcode with this byte ends the stream: DONE, but not in the lazy one
-abbrev pub IsLast : Opcodes → ℕ → Type 0
-IsLast opcodes.LazyBind byte = ⊥
-IsLast other byte = bit_and byte opcode.BIND_OPCODE_MASK ≡ opcode.BIND_OPCODE_DONE
+abbrev pub IsLastSegment : Opcodes → ℕ → Type 0
+IsLastSegment opcodes.LazyBind byte = ⊥
+IsLastSegment other byte = bit_and byte opcode.BIND_OPCODE_MASK ≡ opcode.BIND_OPCODE_DONE
 
 -- how many bytes are between two pointers that a step writes
 abbrev pub skip_of : Step → ℕ
@@ -59,7 +59,7 @@ IsWritten image cursor said address =
 abbrev pub Moves : List ℕ → Opcodes → ℕ → ℕ → State → State → Type 0
 Moves image of home len a b =
     (said : Step) × (a.place < len) × Takes of a.memory home a.place said b.place
-    × (¬ IsLast of (a.memory (home + a.place)))
+    × (¬ IsLastSegment of (a.memory (home + a.place)))
     × (b.cursor ≡ moved a.cursor said)
     × ((address : ℕ) → (b.memory address ≡ a.memory address) ⊎ IsWritten image a.cursor said address)
 
@@ -71,7 +71,7 @@ Reaches image of home len first (suc n) last =
 
 -- A stream of the image, by its opcodes and the table of its bytes, begins at an address of memory: where
 -- some segment named __LINKEDIT has it.
-pub record IsAt (image : List ℕ) (of : Opcodes) (table : ℕ × ℕ × ℕ) (home : ℕ) : Type 0 where
+pub record BeginsInMemory (image : List ℕ) (of : Opcodes) (table : ℕ × ℕ × ℕ) (home : ℕ) : Type 0 where
   pub named : IsSomeAnd (dyld_info image) (λ command. Contains (streams_of image command) (of, table))
   pub found : Any (λ s. IsLinkedit image s × (home + fileoff image s ≡ vmaddr image s + table.0)) (all_segments image)
 
@@ -86,10 +86,10 @@ pub record IsSafe (image : List ℕ) (of : Opcodes) (stream : List ℕ) (home n 
   pub kept : IsKept image a.memory
   -- the opcode that comes next lies in the stream, with its operands
   pub inside : (said : Step) (after : ℕ) → a.place < length stream → Takes of a.memory home a.place said after
-      → ¬ IsLast of (a.memory (home + a.place)) → after ≤ length stream
+      → ¬ IsLastSegment of (a.memory (home + a.place)) → after ≤ length stream
   -- and each pointer that it writes is whole, in the file bytes of a segment that can be written
   pub writes : (said : Step) (after k : ℕ) → a.place < length stream
-      → Takes of a.memory home a.place said after → ¬ IsLast of (a.memory (home + a.place)) → k < writes said
+      → Takes of a.memory home a.place said after → ¬ IsLastSegment of (a.memory (home + a.place)) → k < writes said
       → (segment : ℕ) × (s : ℕ) × (a.cursor.segment ≡ Some segment)
       × (slice_get (all_segments image) segment ≡ Some s) × (is_writable image s ≡ true)
       × (slot a.cursor said k + size.POINTER_SIZE ≤ filesize image s)
@@ -98,12 +98,11 @@ pub record IsSafe (image : List ℕ) (of : Opcodes) (stream : List ℕ) (home n 
 -- so it leaves it for the next stream.
 abbrev pub IsFollowedSafely : List ℕ → Type 0
 IsFollowedSafely image =
-    (of : Opcodes) (table : ℕ × ℕ × ℕ) (home n : ℕ) (first last : State) → IsAt image of table home
+    (of : Opcodes) (table : ℕ × ℕ × ℕ) (home n : ℕ) (first last : State) → BeginsInMemory image of table home
     → IsKept image first.memory → first.place ≡ 0 → first.cursor ≡ start
     → Reaches image of home table.1 first n last
     → IsSafe image of (part table.0 table.1 image) home n last
 
 -- of a file: so is each 64-bit slice
 abbrev pub AreFollowedSafely : List ℕ → Type 0
-AreFollowedSafely file =
-    All (λ slice. IsImage (slice_bytes file slice) → IsFollowedSafely (slice_bytes file slice)) (slices_of file)
+AreFollowedSafely = OfEachImage IsFollowedSafely

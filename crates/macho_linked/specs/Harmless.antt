@@ -1,11 +1,11 @@
 -- What the opcodes of an image that breaks no rule ask of a dynamic loader: which pointers it writes, and
 -- where. The memory of a loader is no part of it.
-use Rattle.std.specs.Prelude.{◌≡◌, ℕ, ◌+◌, ◌*◌, ◌≤◌, ◌<◌, List, [], ◌∷◌, length, map, All, Any, Contains, Some, true, slice_get, IsSomeAnd}
+use Rattle.std.specs.Prelude.{◌≡◌, ℕ, ◌+◌, ◌*◌, ◌≤◌, ◌<◌, List, [], ◌∷◌, length, map, Any, Contains, Some, true, slice_get, IsSomeAnd}
 use Rattle.macho_fields.specs.Field.{part}
 use Rattle.macho_fields.specs.Image.{commands_of}
 use Rattle.macho_fields.specs.Segment.{all_segments, base_of, vmaddr, filesize, Supplies}
 use Rattle.macho_fields.specs.Symbol.{table_at}
-use Rattle.macho_fields.specs.Universal.{slices_of, slice_bytes, IsImage}
+use Rattle.macho_fields.specs.Universal.{OfEachImage}
 use Rattle.macho_linked.specs.Cursor.{cursor_after}
 use Rattle.macho_tables.specs.Homes.{IsHome, HasLinkedData}
 use Rattle.macho_linked.specs.Images.{opcodes_of, fields_of}
@@ -92,5 +92,4 @@ pub record IsHarmless (image : List ℕ) : Type 0 where
 
 -- of a file: each 64-bit slice is such an image
 abbrev pub AreHarmless : List ℕ → Type 0
-AreHarmless file =
-    All (λ slice. IsImage (slice_bytes file slice) → IsHarmless (slice_bytes file slice)) (slices_of file)
+AreHarmless = OfEachImage IsHarmless

@@ -3,7 +3,7 @@ use Rattle.std.specs.Prelude.{◌≡◌, ℕ, ◌*◌, ◌<◌, List, All, Any, 
 use Rattle.macho_fields.specs.Field.{part}
 use Rattle.macho_fields.specs.Image.{commands_of}
 use Rattle.macho_fields.specs.Segment.{all_segments, base_of}
-use Rattle.macho_fields.specs.Universal.{slices_of, slice_bytes, IsImage}
+use Rattle.macho_fields.specs.Universal.{OfEachImage}
 use Rattle.macho_fields.specs.declared.header.loader.TheConstants as loader
 use Rattle.macho_tables.specs.DataInCode.{entry_at, entry_place, is_known_kind, bytes_of_entry, IsCodeOf}
 use Rattle.macho_tables.specs.DataTables.{IsDataTable}
@@ -32,5 +32,4 @@ pub record IsLocated (image : List ℕ) : Type 0 where
 
 -- of a file: each 64-bit slice is such an image
 abbrev pub AreLocated : List ℕ → Type 0
-AreLocated file =
-    All (λ slice. IsImage (slice_bytes file slice) → IsLocated (slice_bytes file slice)) (slices_of file)
+AreLocated = OfEachImage IsLocated

@@ -1,7 +1,7 @@
 -- Where each linked rule is broken, by an image that breaks no other rule: the rule, and the place that
 -- is reported. docs/LINKED.md says the same in words.
-use Rattle.std.specs.Prelude.{ℕ, List, Option}
-use Rattle.macho_fields.specs.First.{BreaksIn, NoneIsBroken, IsFirstOfAll}
+use Rattle.std.specs.Prelude.{ℕ, List}
+use Rattle.macho_fields.specs.First.{NoneIsBroken, IsFirstOfAll}
 use Rattle.macho_fields.specs.declared.rule.Break.{Break}
 use Rattle.macho_fields.specs.declared.rule.Rule.{Rule}
 use Rattle.macho_fields.specs.declared.rule.Rule.TheVariants as rule
@@ -17,6 +17,7 @@ use Rattle.macho_signature.specs.Signature.{BreaksSignatureBlob, BreaksSignature
 use Rattle.macho_symbols.specs.Relocations.{BreaksRelocation}
 use Rattle.macho_symbols.specs.Symbols.{BreaksSymbolLibrary, BreaksSymbolValue, BreaksSymbolIndirect}
 use Rattle.macho_commands.specs.Commands.{BreaksThread, BreaksCommandContent}
+use Rattle.macho_rules.specs.Profile.{NoFileRule, AddedIn}
 
 -- the image breaks the rule at the place
 abbrev pub BreaksImage : List ℕ → Rule → ℕ → Type 0
@@ -59,17 +60,9 @@ BreaksImage image rule.Thread place = BreaksThread image place
 BreaksImage image rule.CommandContent place = BreaksCommandContent image place
 BreaksImage image other place = ⊥
 
--- a file breaks none but in its images
-abbrev pub BreaksFile : List ℕ → Rule → ℕ → Type 0
-BreaksFile file r place = ⊥
-
--- an image breaks a linked rule, whatever architecture a universal file names for it
-abbrev pub BreaksSlice : List ℕ → Option (ℕ × ℕ) → Rule → ℕ → Type 0
-BreaksSlice image arch = BreaksImage image
-
 -- the linked rule is broken there, by the bytes of a 64-bit slice
 abbrev pub IsBrokenIn : List ℕ → ℕ → Rule → ℕ → Type 0
-IsBrokenIn = BreaksIn BreaksFile BreaksSlice
+IsBrokenIn = AddedIn NoFileRule BreaksImage
 
 -- no linked rule is broken
 abbrev pub IsLinkedUnbroken : List ℕ → Type 0

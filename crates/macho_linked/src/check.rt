@@ -2,7 +2,6 @@
 
 ghost use Rattle.std.specs.Prelude.{None, OnOk, IfErr};
 ghost use Rattle.macho_fields.specs.First.{rank};
-ghost use Rattle.macho_fields.specs.FirstPlace.{IsLeastPlace};
 ghost use Rattle.macho_fields.specs.Layers.{NothingBreaks, KeptBelow, Continues};
 ghost use Rattle.macho_fields.specs.Rules.{BreaksImage as Breaks};
 ghost use Rattle.macho_fields.specs.declared.rule.Rule.{Rule};
@@ -14,6 +13,7 @@ ghost use Rattle.macho_rules.specs.Verdict.{IsRefusalOf};
 ghost use Rattle.macho_strict.specs.Rules.{BreaksStrictImage};
 ghost use Rattle.macho_symbols.specs.Symbols.{IsLeastOfImage as AreLeastSymbols};
 
+use crate::profile::Linked;
 use crate::streams::StreamSurveys;
 use macho_chains::chain_pages::PointerSurvey;
 use macho_chains::chains::{ChainSurvey, ChainedFixups};
@@ -21,7 +21,7 @@ use macho_commands::CommandSurvey;
 use macho_exports::exports::ExportSurvey;
 use macho_fields::{Break, Rule};
 use macho_image::Image;
-use macho_rules::Refusal;
+use macho_rules::{ProfileRules, Refusal};
 use macho_signature::SignatureSurvey;
 use macho_symbols::SymbolSurvey;
 use macho_symbols::relocations::relocation;
@@ -53,30 +53,30 @@ fn check_fixups(image: &Image) -> Result<(), Break>
     requires { NothingBreaks (Breaks image.now None) }
     ensures { Continues (BreaksImage image.now) Rule.ChainBind result }
 {
-    judge(image, Rule::TableRepeated, table_repeated(image))?;
-    judge(image, Rule::FunctionVariants, function_variants(image))?;
-    judge(image, Rule::TableHome, table_home(image))?;
-    judge(image, Rule::HeaderHome, header_home(image))?;
+    Linked::judge(image, Rule::TableRepeated, table_repeated(image))?;
+    Linked::judge(image, Rule::FunctionVariants, function_variants(image))?;
+    Linked::judge(image, Rule::TableHome, table_home(image))?;
+    Linked::judge(image, Rule::HeaderHome, header_home(image))?;
     let StreamSurveys { rebases, binds } = StreamSurveys::of(image);
-    judge(image, Rule::RebaseOpcode, rebases.opcode)?;
-    judge(image, Rule::RebaseSlot, rebases.slot)?;
-    judge(image, Rule::RebaseTotal, rebases.total)?;
-    judge(image, Rule::BindOpcode, binds.opcode)?;
-    judge(image, Rule::BindLibrary, binds.library)?;
-    judge(image, Rule::BindSymbol, binds.symbol)?;
-    judge(image, Rule::BindSlot, binds.slot)?;
-    judge(image, Rule::BindTotal, binds.total)?;
-    judge(image, Rule::BindNames, binds.names)?;
+    Linked::judge(image, Rule::RebaseOpcode, rebases.opcode)?;
+    Linked::judge(image, Rule::RebaseSlot, rebases.slot)?;
+    Linked::judge(image, Rule::RebaseTotal, rebases.total)?;
+    Linked::judge(image, Rule::BindOpcode, binds.opcode)?;
+    Linked::judge(image, Rule::BindLibrary, binds.library)?;
+    Linked::judge(image, Rule::BindSymbol, binds.symbol)?;
+    Linked::judge(image, Rule::BindSlot, binds.slot)?;
+    Linked::judge(image, Rule::BindTotal, binds.total)?;
+    Linked::judge(image, Rule::BindNames, binds.names)?;
     let fixups = ChainedFixups::of(image);
     let chains = ChainSurvey::of(image, &fixups);
-    judge(image, Rule::ChainHeader, chains.header)?;
-    judge(image, Rule::ChainStarts, chains.starts)?;
-    judge(image, Rule::ChainImports, chains.imports)?;
-    judge(image, Rule::ChainTotal, chains.total)?;
-    judge(image, Rule::ChainLibrary, chains.library)?;
+    Linked::judge(image, Rule::ChainHeader, chains.header)?;
+    Linked::judge(image, Rule::ChainStarts, chains.starts)?;
+    Linked::judge(image, Rule::ChainImports, chains.imports)?;
+    Linked::judge(image, Rule::ChainTotal, chains.total)?;
+    Linked::judge(image, Rule::ChainLibrary, chains.library)?;
     let pointers = PointerSurvey::of(image, &fixups);
-    judge(image, Rule::ChainSlot, pointers.slot)?;
-    judge(image, Rule::ChainBind, pointers.bind)?;
+    Linked::judge(image, Rule::ChainSlot, pointers.slot)?;
+    Linked::judge(image, Rule::ChainBind, pointers.bind)?;
     Ok(())
 }
 
@@ -97,11 +97,11 @@ fn judge_exports(image: &Image, exports: ExportSurvey) -> Result<(), Break>
     requires exports { AreLeastExports image.now exports }
     ensures { Continues (BreaksImage image.now) Rule.ExportAddress result }
 {
-    judge(image, Rule::ExportNode, exports.node)?;
-    judge(image, Rule::ExportTotal, exports.total)?;
-    judge(image, Rule::ExportTerminal, exports.terminal)?;
-    judge(image, Rule::ExportLibrary, exports.library)?;
-    judge(image, Rule::ExportAddress, exports.address)?;
+    Linked::judge(image, Rule::ExportNode, exports.node)?;
+    Linked::judge(image, Rule::ExportTotal, exports.total)?;
+    Linked::judge(image, Rule::ExportTerminal, exports.terminal)?;
+    Linked::judge(image, Rule::ExportLibrary, exports.library)?;
+    Linked::judge(image, Rule::ExportAddress, exports.address)?;
     Ok(())
 }
 
@@ -113,9 +113,9 @@ fn check_functions(alloc: Global, image: &Image) -> Result<(), Refusal>
     ensures { ContinuesWithMemory (BreaksImage image.now) Rule.DataInCode (TakesMemory image.now) result }
 {
     let functions = FunctionStartSurvey::of(alloc, image)?;
-    judge(image, Rule::FunctionNumber, functions.number)?;
-    judge(image, Rule::FunctionStart, functions.start)?;
-    judge(image, Rule::DataInCode, data_in_code(alloc, image)?)?;
+    Linked::judge(image, Rule::FunctionNumber, functions.number)?;
+    Linked::judge(image, Rule::FunctionStart, functions.start)?;
+    Linked::judge(image, Rule::DataInCode, data_in_code(alloc, image)?)?;
     Ok(())
 }
 
@@ -126,9 +126,9 @@ fn check_signature(image: &Image) -> Result<(), Break>
     ensures { Continues (BreaksImage image.now) Rule.SignatureWhole result }
 {
     let signature = SignatureSurvey::of(image);
-    judge(image, Rule::SignatureBlob, signature.blob)?;
-    judge(image, Rule::SignatureDirectory, signature.directory)?;
-    judge(image, Rule::SignatureWhole, signature.whole)?;
+    Linked::judge(image, Rule::SignatureBlob, signature.blob)?;
+    Linked::judge(image, Rule::SignatureDirectory, signature.directory)?;
+    Linked::judge(image, Rule::SignatureWhole, signature.whole)?;
     Ok(())
 }
 
@@ -150,10 +150,10 @@ fn judge_symbols(image: &Image, symbols: SymbolSurvey) -> Result<(), Break>
     requires symbols { AreLeastSymbols image.now symbols }
     ensures { Continues (BreaksImage image.now) Rule.Relocation result }
 {
-    judge(image, Rule::SymbolLibrary, symbols.library)?;
-    judge(image, Rule::SymbolValue, symbols.value)?;
-    judge(image, Rule::SymbolIndirect, symbols.indirect)?;
-    judge(image, Rule::Relocation, relocation(image))?;
+    Linked::judge(image, Rule::SymbolLibrary, symbols.library)?;
+    Linked::judge(image, Rule::SymbolValue, symbols.value)?;
+    Linked::judge(image, Rule::SymbolIndirect, symbols.indirect)?;
+    Linked::judge(image, Rule::Relocation, relocation(image))?;
     Ok(())
 }
 
@@ -164,18 +164,7 @@ fn check_commands(image: &Image) -> Result<(), Break>
     ensures { Continues (BreaksImage image.now) Rule.CommandContent result }
 {
     let commands = CommandSurvey::of(image);
-    judge(image, Rule::Thread, commands.thread)?;
-    judge(image, Rule::CommandContent, commands.content)?;
+    Linked::judge(image, Rule::Thread, commands.thread)?;
+    Linked::judge(image, Rule::CommandContent, commands.content)?;
     Ok(())
-}
-
-// The answer of a rule, by the least place at which the image breaks it, where all earlier ones are
-// unbroken.
-fn judge(image: &Image, rule: Rule, least: Option<u64>) -> Result<(), Break>
-    requires kept { KeptBelow (BreaksImage image.now) (rank rule) }
-    requires least { IsLeastPlace (BreaksImage image.now rule) least }
-    ensures { Continues (BreaksImage image.now) rule result }
-{
-    let _image = image;
-    rule.judge(least)
 }

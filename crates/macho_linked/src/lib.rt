@@ -7,6 +7,7 @@ mod check;
 pub mod cursor;
 pub mod law;
 pub mod opcode;
+mod profile;
 pub mod step;
 pub mod stream;
 pub mod streams;

@@ -1,24 +1,22 @@
 //! The linked verdict on a file.
 
-ghost use Rattle.std.specs.Prelude.{◌≡◌, suc, OnOk, IfOk, IfErr};
+ghost use Rattle.std.specs.Prelude.{◌≡◌, OnOk, IfOk, IfErr};
 ghost use Rattle.macho_fields.specs.First.{IsUnbroken};
-ghost use Rattle.macho_fields.specs.Layers.{NothingBreaks};
 ghost use Rattle.macho_fields.specs.Loader.{IsSound};
 ghost use Rattle.macho_chains.specs.ChainDyld.{AreChainedSafely};
 ghost use Rattle.macho_linked.specs.Dyld.{AreFollowedSafely};
 ghost use Rattle.macho_exports.specs.ExportLaw.{HasSoundExports};
 ghost use Rattle.macho_linked.specs.Harmless.{AreHarmless};
 ghost use Rattle.macho_linked.specs.Located.{AreLocated};
-ghost use Rattle.macho_linked.specs.Rules.{IsBrokenIn, IsLinkedUnbroken};
+ghost use Rattle.macho_linked.specs.Rules.{IsLinkedUnbroken};
 ghost use Rattle.macho_commands.specs.Sound.{AreSoundCommands};
 ghost use Rattle.macho_signature.specs.Signed.{AreSigned};
-ghost use Rattle.macho_linked.specs.Verdict.{IsLinkedRefusal, IsLinkedBreak, IsScopeBreak};
+ghost use Rattle.macho_linked.specs.Verdict.{IsLinkedRefusal};
 ghost use Rattle.macho_strict.specs.Accounted.{IsAccounted};
 ghost use Rattle.macho_strict.specs.First.{IsStrictlyUnbroken};
 
-use crate::check::check_image;
-use macho_fields::Break;
-use macho_rules::{Refusal, Verified};
+use crate::profile::Linked;
+use macho_rules::{Refusal, Verified, check_images};
 use macho_strict::verify_strictly;
 use std::alloc::Global;
 
@@ -53,44 +51,6 @@ pub fn verify_linked<'a>(alloc: Global, file: &'a [u8]) -> Result<Verified<'a>, 
     ensures file { IfOk result (λ verified. verified ≡ file.now) }
 {
     let verified = verify_strictly(alloc, file)?;
-    check_linked(alloc, &verified)?;
+    check_images::<Linked>(alloc, &verified)?;
     Ok(verified)
-}
-
-// Decides the linked rules of each 64-bit slice of a file, one slice after the other. The place of a break
-// is its offset in the file.
-fn check_linked(alloc: Global, verified: &Verified) -> Result<(), Refusal>
-    requires { IsStrictlyUnbroken verified.now }
-    ensures unbroken { OnOk result (IsLinkedUnbroken verified.now) }
-    ensures refused { IfErr result (IsLinkedBreak verified.now) }
-{
-    for index in 0..verified.slice_count() {
-        check_slice(alloc, verified, index)?;
-    }
-    Ok(())
-}
-
-// Decides the linked rules of the slice with this index, if it has an image. The place of a break is its
-// offset in the file.
-fn check_slice(alloc: Global, verified: &Verified, index: u64) -> Result<(), Refusal>
-    requires { IsStrictlyUnbroken verified.now }
-    ensures unbroken { OnOk result (NothingBreaks (IsBrokenIn verified.now (suc index))) }
-    ensures refused { IfErr result (IsScopeBreak verified.now (suc index)) }
-{
-    let Some(slice) = verified.slice(index) else {
-        return Ok(());
-    };
-    let Some(image) = verified.image(index) else {
-        return Ok(());
-    };
-    match check_image(alloc, &image) {
-        Ok(()) => Ok(()),
-        Err(Refusal::Broken(broken)) => {
-            // The image lies in the file, so its places do too.
-            prove!(verified.bytes().len() <= u64::MAX);
-            let place = slice.span.start + broken.place;
-            Err(Refusal::Broken(Break::at(broken.rule, place)))
-        }
-        Err(Refusal::Memory) => Err(Refusal::Memory),
-    }
 }

@@ -73,7 +73,7 @@ BeginsPast symbols index address position =
 
 -- The entry at the position is the index of this symbol, which begins at or before the address, and the
 -- next one does not.
-pub record IsLast (symbols : List Symbol) (index : List ℕ) (address position : ℕ) (symbol : Symbol)
+pub record IsLastSymbol (symbols : List Symbol) (index : List ℕ) (address position : ℕ) (symbol : Symbol)
     : Type 0 where
   pub within : position < length index
   pub is : slice_get symbols (slice_index index position) ≡ Some symbol
@@ -91,12 +91,12 @@ no_symbol = record {
   reserved = 0;
 }
 
--- The answer on an address, by any numbers in the index: the symbol at a position at which IsLast holds,
+-- The answer on an address, by any numbers in the index: the symbol at a position at which IsLastSymbol holds,
 -- of an image with so many sections, or none if the first entry begins past the address.
 abbrev pub IsFound : List Symbol → ℕ → List ℕ → ℕ → ℕ → KesvuotSymbol → ℕ → Type 0
 IsFound symbols sections index address status symbol position =
     ((status ≡ KESVUOT_OK)
-    × (s : Symbol) × IsLast symbols index address position s × (symbol ≡ symbol_row sections s))
+    × (s : Symbol) × IsLastSymbol symbols index address position s × (symbol ≡ symbol_row sections s))
     ⊎ ((status ≡ KESVUOT_NONE) × BeginsPast symbols index address 0
     × (symbol ≡ no_symbol) × (position ≡ 0))
 

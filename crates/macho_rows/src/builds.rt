@@ -8,6 +8,7 @@ ghost use Rattle.macho_rows.specs.Loads.{IsLoad, is_build};
 use crate::cursor::KesvuotCursor;
 use crate::load::{Load, Wanted, next_wanted, version_min_platform};
 use crate::table::Table;
+use macho_fields::header::loader::build_version_command::{MINOS, PLATFORM, SDK};
 use macho_fields::{Bytes, Order};
 
 /// A platform and its versions. (`build_version_command`, `version_min_command`)
@@ -62,13 +63,6 @@ fn row_of(image: Bytes, load: Load) -> KesvuotBuild
         },
     }
 }
-
-// The offsets of the fields in `build_version_command`.
-const PLATFORM: u64 = 8;
-
-const MINOS: u64 = 12;
-
-const SDK: u64 = 16;
 
 // The offsets of the fields in `version_min_command`.
 const VERSION: u64 = 8;

@@ -30,6 +30,7 @@ use macho_fields::header::loader::LC_ID_DYLIB;
 use macho_fields::header::loader::dysymtab_command::{
     IEXTDEFSYM, ILOCALSYM, IUNDEFSYM, NEXTDEFSYM, NLOCALSYM, NUNDEFSYM,
 };
+use macho_fields::header::loader::mach_header_64::{CPUSUBTYPE, FLAGS, NCMDS};
 use macho_fields::{Bytes, Order};
 use macho_image::{Image, Symtab};
 
@@ -45,13 +46,6 @@ const HAS_SYMTAB: u32 = 8;
 const HAS_DYSYMTAB: u32 = 16;
 /// `LC_ID_DYLIB` is there.
 const HAS_ID: u32 = 32;
-
-// The offsets of `cpusubtype`, `ncmds` and `flags` in `mach_header_64`.
-const CPUSUBTYPE: u64 = 8;
-
-const NCMDS: u64 = 16;
-
-const FLAGS: u64 = 24;
 
 /// An image. (`struct kesvuot_image`) C may keep it for as long as the bytes stay, and may change it:
 /// no export trusts it.

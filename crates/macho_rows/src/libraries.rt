@@ -11,6 +11,7 @@ use crate::load::{Load, Wanted, next_wanted};
 use crate::span::{Held, KesvuotSpan, NO_SPAN};
 use crate::table::Table;
 use macho_fields::Order;
+use macho_fields::header::loader::dylib_command::{COMPATIBILITY_VERSION, CURRENT_VERSION};
 
 /// A library: one that the image loads, or the image itself. (`dylib_command`)
 #[repr(C)]
@@ -72,8 +73,3 @@ pub fn library_row(image: &Held, load: Load) -> KesvuotLibrary
         reserved: 0,
     }
 }
-
-// The offsets of the fields in `dylib_command`.
-const CURRENT_VERSION: u64 = 16;
-
-const COMPATIBILITY_VERSION: u64 = 20;

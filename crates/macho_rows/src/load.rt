@@ -9,20 +9,15 @@ ghost use Rattle.macho_rows.specs.Loads.{is_command, is_wanted, next_place, load
 ghost use Rattle.macho_rows.specs.Loads.{is_segment, is_library, is_build, is_dyld_info, first_wanted, version_min_platform};
 
 use crate::cursor::{KesvuotCursor, START};
+use macho_fields::header::loader::load_command::CMDSIZE;
+use macho_fields::header::loader::mach_header_64::{NCMDS, SIZEOFCMDS};
 use macho_fields::header::loader::segment_command_64::NSECTS;
 use macho_fields::header::loader::{
     LC_BUILD_VERSION, LC_DYLD_INFO, LC_DYLD_INFO_ONLY, LC_DYSYMTAB, LC_ENCRYPTION_INFO_64,
-    LC_ID_DYLIB, LC_SEGMENT_64, LC_SYMTAB, LOAD_COMMAND_SIZE, MACH_HEADER_64_SIZE, SECTION_64_SIZE,
-    SEGMENT_COMMAND_64_SIZE,
+    LC_ID_DYLIB, LC_SEGMENT_64, LC_SYMTAB, LINKEDIT_DATA_COMMAND_SIZE, LOAD_COMMAND_SIZE,
+    MACH_HEADER_64_SIZE, SECTION_64_SIZE, SEGMENT_COMMAND_64_SIZE,
 };
 use macho_fields::{Bytes, Order, names_library};
-
-// The offsets of `ncmds` and `sizeofcmds` in `mach_header_64`, and of `cmdsize` in a command.
-const NCMDS: u64 = 16;
-
-const SIZEOFCMDS: u64 = 20;
-
-const CMDSIZE: u64 = 4;
 
 // The load commands that are not judged, and are read if they hold their structure.
 const LC_VERSION_MIN_MACOSX: u32 = 0x24;
@@ -51,8 +46,6 @@ const DYSYMTAB_COMMAND_SIZE: u64 = 80;
 const DYLD_INFO_COMMAND_SIZE: u64 = 48;
 
 const ENCRYPTION_INFO_COMMAND_64_SIZE: u64 = 24;
-
-const LINKEDIT_DATA_COMMAND_SIZE: u64 = 16;
 
 /// A load command: it lies among the commands of the image. (`load_command`)
 #[derive(Clone, Copy)]

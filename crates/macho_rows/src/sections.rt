@@ -10,7 +10,10 @@ use crate::cursor::KesvuotCursor;
 use crate::load::{Wanted, is_segment, load_at, next_wanted};
 use crate::span::{Held, KesvuotSpan, NO_SPAN};
 use crate::table::Table;
-use macho_fields::header::loader::segment_command_64::NSECTS;
+use macho_fields::header::loader::section_64::{
+    ADDR, ALIGN, FLAGS, NRELOC, OFFSET, RELOFF, RESERVED1, RESERVED2, SIZE,
+};
+use macho_fields::header::loader::segment_command_64::{NSECTS, SEGNAME};
 use macho_fields::header::loader::{
     MACH_HEADER_64_SIZE, S_GB_ZEROFILL, S_THREAD_LOCAL_ZEROFILL, S_ZEROFILL, SECTION_64_SIZE,
     SECTION_TYPE, SEGMENT_COMMAND_64_SIZE,
@@ -146,25 +149,3 @@ fn is_zero_fill(flags: u32) -> bool
         S_ZEROFILL | S_GB_ZEROFILL | S_THREAD_LOCAL_ZEROFILL
     )
 }
-
-// The offset of `segname` in `segment_command_64`.
-const SEGNAME: u64 = 8;
-
-// The offsets of the fields in `section_64`, of which the first is `sectname`.
-const ADDR: u64 = 32;
-
-const SIZE: u64 = 40;
-
-const OFFSET: u64 = 48;
-
-const ALIGN: u64 = 52;
-
-const RELOFF: u64 = 56;
-
-const NRELOC: u64 = 60;
-
-const FLAGS: u64 = 64;
-
-const RESERVED1: u64 = 68;
-
-const RESERVED2: u64 = 72;

@@ -9,7 +9,9 @@ use crate::load::{Wanted, next_wanted};
 use crate::span::{Held, KesvuotSpan};
 use crate::table::Table;
 use macho_fields::Order;
-use macho_fields::header::loader::segment_command_64::NSECTS;
+use macho_fields::header::loader::segment_command_64::{
+    FILEOFF, FILESIZE, INITPROT, MAXPROT, NSECTS, SEGNAME, VMADDR, VMSIZE,
+};
 
 /// A segment. (`segment_command_64`)
 #[repr(C)]
@@ -97,18 +99,3 @@ fn sections_past(before: u64, own: u32) -> u64
 {
     before.saturating_add(u64::from(own))
 }
-
-// The offsets of the fields in `segment_command_64`.
-const SEGNAME: u64 = 8;
-
-const VMADDR: u64 = 24;
-
-const VMSIZE: u64 = 32;
-
-const FILEOFF: u64 = 40;
-
-const FILESIZE: u64 = 48;
-
-const MAXPROT: u64 = 56;
-
-const INITPROT: u64 = 60;

@@ -7,6 +7,7 @@ ghost use Rattle.macho_rows.specs.Rows.{IsBrokenImage, HasUnbrokenHeaders};
 ghost use Rattle.macho_rows.specs.Spans.{span_of, part_or_none};
 
 use crate::parts::part_or_none;
+use macho_fields::header::loader::SHORT_NAME_SIZE;
 use macho_fields::{Bytes, Span};
 use macho_image::Image;
 
@@ -92,6 +93,3 @@ impl<'a> Held<'a> {
         }
     }
 }
-
-// The size in bytes of the name of a segment or a section.
-const SHORT_NAME_SIZE: u64 = 16;

@@ -17,3 +17,5 @@ pub mod FileMemory
 pub mod Verdicts
 pub mod Second
 pub mod Surveys
+pub mod Profiles
+pub mod Refusals

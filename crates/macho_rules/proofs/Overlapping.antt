@@ -1,5 +1,5 @@
 -- Segments that share addresses, by their index among the mapped ones.
-use Rattle.std.proofs.Common.{◌≡◌, ℕ, ◌≤◌, ◌<◌, List, [], ◌∷◌, length, map, get_or, Contains, slice_get, Some, None, Result, Ok, Err, IsErrAnd, refl, sym, ap, ◌∙◌, subst, arith, inl, inr}
+use Rattle.std.proofs.Common.{◌≡◌, ℕ, ◌≤◌, ◌<◌, List, [], ◌∷◌, length, map, get_or, Contains, slice_get, Some, None, refl, sym, ap, ◌∙◌, subst, arith, inl, inr}
 use Rattle.std.proofs.lemmas.Bool.{cases_lt, cases_eq}
 use Rattle.std.proofs.lemmas.List.{get_or_default, get_or-map, length-map}
 use Rattle.std.proofs.lemmas.List.Elements.{Contains-get_or}
@@ -13,11 +13,9 @@ use Rattle.macho_spans.specs.declared.span_order.Sharing.TheVariants as sharing
 use Rattle.macho_fields.specs.declared.rule.Rule.TheVariants as rule
 use Rattle.macho_spans.specs.declared.span.Span.{Span}
 use Rattle.macho_image.specs.Opened.{IsOpened}
-use Rattle.macho_rules.specs.Check.{KeptBefore, RefusesUpTo}
+use Rattle.macho_rules.specs.Check.{KeptBefore}
 use Rattle.macho_rules.specs.Mapped.{mapped_segments, memory_at, mapped_memory, tagged_memory}
-use Rattle.macho_rules.specs.Verdict.{HasMapped, IsImageRefusal}
-use Rattle.macho_rules.specs.declared.refusal.Refusal.{Refusal}
-use Rattle.macho_rules.specs.declared.refusal.Refusal.TheVariants as refusal
+use Rattle.macho_rules.specs.Verdict.{HasMapped, ImageTakesMemory}
 use Rattle.macho_rules.proofs.Mapped.{mapped_rise, mapped_among, among_mapped, mapped_some}
 use Rattle.macho_rules.proofs.Searches.{any_of, ordered_at}
 
@@ -153,8 +151,6 @@ unordered_some image (not_ascending, _) = elim (cases_lt 0 (length (mapped_segme
     ascend_none [] none = λ i j less filled also. absurd (omega arith)
     ascend_none (span ∷ all) none = absurd (omega arith)
 
--- an answer that there is no memory, if the mapped segments are unordered
-pub without_memory : {T : Type 0} (image : List ℕ) → KeptBefore image rule.SegmentOverlap → IsUnordered (mapped_memory image) → (answer : Result T Refusal) → IsErrAnd answer (λ given. given ≡ refusal.Memory)
-    → RefusesUpTo image rule.SegmentOverlap answer
-without_memory image kept unordered (Ok x) is = absurd is
-without_memory image kept unordered (Err given) is = subst (IsImageRefusal image None) (sym is) (kept, unordered_some image unordered, unordered)
+-- where they are unordered, the verdict on the image takes memory
+pub unordered_takes : (image : List ℕ) → KeptBefore image rule.SegmentOverlap → IsUnordered (mapped_memory image) → ImageTakesMemory image None
+unordered_takes image kept unordered = (kept, unordered_some image unordered, unordered)

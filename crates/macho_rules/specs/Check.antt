@@ -5,7 +5,7 @@ use Rattle.macho_fields.specs.First.{rank}
 use Rattle.macho_fields.specs.Layers.{KeptBelow, Continues}
 use Rattle.macho_fields.specs.declared.rule.Rule.{Rule}
 use Rattle.macho_fields.specs.declared.rule.Break.{Break}
-use Rattle.macho_rules.specs.Verdict.{IsImageRefusal, IsRefusalOf}
+use Rattle.macho_rules.specs.Verdict.{IsRefusalOf}
 use Rattle.macho_rules.specs.declared.refusal.Refusal.{Refusal}
 
 -- an image keeps the rules that come before r
@@ -21,11 +21,6 @@ JudgesUpTo image r answer = Continues (BreaksImage image None) r answer
 abbrev pub ContinuesWithMemory : {T : Type 0} → (Rule → ℕ → Type 0) → Rule → Type 0 → Result T Refusal → Type 0
 ContinuesWithMemory breaks r CanRunOut answer =
     MatchResult answer (λ _. KeptBelow breaks (rank r + 1)) (IsRefusalOf breaks CanRunOut)
-
--- an answer reports that an image keeps the rules up to r, and otherwise why it is refused
-abbrev pub RefusesUpTo : {T : Type 0} → List ℕ → Rule → Result T Refusal → Type 0
-RefusesUpTo image r answer =
-    MatchResult answer (λ _. KeptBelow (BreaksImage image None) (rank r + 1)) (IsImageRefusal image None)
 
 -- an answer reports a break of the rule at the place, and none where there is no place
 abbrev pub AnswersAt : {T : Type 0} → Rule → Option ℕ → Result T Break → Type 0

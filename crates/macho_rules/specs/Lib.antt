@@ -5,3 +5,4 @@ pub mod Verdict
 pub mod Source
 pub mod Mapping
 pub mod FilePart
+pub mod Profile

@@ -1,11 +1,13 @@
 //! The rules of the segments of an image. (`mach-o/loader.h`: `segment_command_64`)
 
 ghost use Rattle.std.specs.Prelude.{◌≡◌, ◌+◌, ◌-◌, ◌*◌, ◌^◌, ◌<◌, ◌≤◌, ◌↔◌, min, max, length, map};
-ghost use Rattle.std.specs.Prelude.{slice_get, Some, IfOk, IsTrue};
+ghost use Rattle.std.specs.Prelude.{slice_get, None, Some, IfOk, IsTrue};
+ghost use Rattle.macho_fields.specs.Rules.{BreaksImage};
 ghost use Rattle.macho_fields.specs.Segment.{vmaddr, vmsize, fileoff, filesize};
 ghost use Rattle.macho_fields.specs.Segment.{PassesLastAddress, IsLongerInFile, PassesImage};
 ghost use Rattle.macho_fields.specs.declared.rule.Rule.{Rule};
-ghost use Rattle.macho_rules.specs.Check.{KeptBefore, RefusesUpTo};
+ghost use Rattle.macho_rules.specs.Check.{KeptBefore, ContinuesWithMemory};
+ghost use Rattle.macho_rules.specs.Verdict.{ImageTakesMemory};
 ghost use Rattle.macho_rules.specs.Mapped.{mapped_segments, memory_at, mapped_memory};
 ghost use Rattle.macho_spans.specs.Overlap.{IsUnordered};
 
@@ -50,7 +52,8 @@ pub(crate) fn segment_overlap(
 ) -> Result<(), Refusal>
     requires survey { survey.now ≡ image.now }
     requires kept { KeptBefore image.now Rule.SegmentOverlap }
-    ensures { RefusesUpTo image.now Rule.SegmentOverlap result }
+    ensures { ContinuesWithMemory (BreaksImage image.now None) Rule.SegmentOverlap
+        (ImageTakesMemory image.now None) result }
 {
     match survey.sharing() {
         Sharing::None => Ok(()),
@@ -64,7 +67,8 @@ fn sorted_overlap(alloc: Global, image: &Image, count: usize) -> Result<(), Refu
     requires count { count ≡ min (length (mapped_segments image.now)) (2 ^ 64 - 1) }
     requires kept { KeptBefore image.now Rule.SegmentOverlap }
     requires unordered { IsUnordered (mapped_memory image.now) }
-    ensures { RefusesUpTo image.now Rule.SegmentOverlap result }
+    ensures { ContinuesWithMemory (BreaksImage image.now None) Rule.SegmentOverlap
+        (ImageTakesMemory image.now None) result }
 {
     let spans = mapped_memory(alloc, image, count)?;
     let Some(index) = spans.least_overlap() else {

@@ -11,62 +11,21 @@ use Rattle.macho_fields.specs.Symbol.{table_at}
 use Rattle.macho_fields.specs.declared.header.loader.TheConstants as loader
 use Rattle.macho_image.specs.Command.{first_with_cmd}
 use Rattle.macho_image.proofs.Progress.{nearer_end}
-use Rattle.macho_sealed.specs.Cdhashes.{has_superblob, entry_count, cdhash_at, cdhashes_from, signature_cdhashes, image_cdhashes}
+use Rattle.macho_sealed.specs.Cdhashes.{entry_count, cdhash_at, cdhashes_from, signature_cdhashes, image_cdhashes}
 use Rattle.macho_sealed.specs.declared.digest.Digest.{Digest}
-use Rattle.macho_signature.specs.Superblobs.{big_word, superblob_at, blob_count, entry_offset, HasNoSuperblob}
+use Rattle.macho_signature.specs.Superblobs.{superblob_at, blob_count, has_superblob, HasNoSuperblob}
+use Rattle.macho_signature.proofs.SuperblobTests.{superblob_true, superblob_there}
 use Rattle.macho_signature.specs.declared.superblob.Superblob.{Superblob}
 use Rattle.macho_spans.specs.declared.span.Span.{Span}
 use Rattle.macho_tables.specs.DataTables.{IsDataTable}
 use Rattle.macho_tables.specs.Homes.{bytes_of_table}
 
--- The test of a superblob
+-- How many entries there are
 
-superblob_tested : (signature : List ℕ) → ¬ HasNoSuperblob signature → has_superblob signature ≡ true
-superblob_tested signature whole =
-    let superblob = superblob_at signature in
-    and_from (nat_le 12 (length signature)) _ (size (cases_lt (length signature) 12))
-    (and_from (big_word signature 0 == 0xfade0cc0) _ (magic (cases_eq (big_word signature 0) 0xfade0cc0))
-    (and_from (nat_le superblob.length (length signature)) (nat_le (entry_offset (blob_count signature)) superblob.length) (end (cases_lt (length signature) superblob.length))
-    (index (cases_lt superblob.length (entry_offset superblob.count)))))
-  where
-    size : (length signature < 12) ⊎ (12 ≤ length signature) → nat_le 12 (length signature) ≡ true
-    size (inl short) = absurd (whole (inl short))
-    size (inr fits) = le-leb 12 (length signature) fits
-
-    magic : (big_word signature 0 ≡ 0xfade0cc0) ⊎ ¬ (big_word signature 0 ≡ 0xfade0cc0) → (big_word signature 0 == 0xfade0cc0) ≡ true
-    magic (inl same) = eq-eqb (big_word signature 0) 0xfade0cc0 same
-    magic (inr other) = absurd (whole (inr (inl other)))
-
-    end : (length signature < (superblob_at signature).length) ⊎ ((superblob_at signature).length ≤ length signature) → nat_le (superblob_at signature).length (length signature) ≡ true
-    end (inl past) = absurd (whole (inr (inr (inl past))))
-    end (inr inside) = le-leb (superblob_at signature).length (length signature) inside
-
-    index : ((superblob_at signature).length < entry_offset (superblob_at signature).count) ⊎ (entry_offset (superblob_at signature).count ≤ (superblob_at signature).length)
-        → nat_le (entry_offset (blob_count signature)) (superblob_at signature).length ≡ true
-    index (inl past) = absurd (whole (inr (inr (inr past))))
-    index (inr inside) = le-leb (entry_offset (blob_count signature)) (superblob_at signature).length inside
-
-pub superblob_there : (signature : List ℕ) → has_superblob signature ≡ true → ¬ HasNoSuperblob signature
-superblob_there signature has none =
-    let superblob = superblob_at signature in
-    let (size, rest) = and_parts (nat_le 12 (length signature)) _ has in
-    let (magic, more) = and_parts (big_word signature 0 == 0xfade0cc0) _ rest in
-    let (end, index) = and_parts (nat_le superblob.length (length signature)) (nat_le (entry_offset (blob_count signature)) superblob.length) more in
-    let long = leb-true 12 (length signature) size in
-    let inside = leb-true superblob.length (length signature) end in
-    let fits = leb-true (entry_offset (blob_count signature)) superblob.length index in
-    elim none [
-      | inl short ↦ absurd (omega (arith, short, long))
-      | inr rest ↦ elim rest [
-        | inl other ↦ absurd (other (eqb-true (big_word signature 0) 0xfade0cc0 magic))
-        | inr last ↦ elim last [ inl past ↦ absurd (omega (arith, past, inside)) | inr over ↦ absurd (omega (arith, over, fits)) ]
-      ]
-    ]
-
--- what is read is how many entries there are
+-- as many as are read
 pub counted : (signature : List ℕ) (superblob : Superblob) → ¬ HasNoSuperblob signature → superblob ≡ superblob_at signature → superblob.count ≡ entry_count signature
 counted signature superblob whole same =
-    ap (λ (s : Superblob). s.count) same ∙ sym (cond-true (has_superblob signature) (blob_count signature) 0 (superblob_tested signature whole))
+    ap (λ (s : Superblob). s.count) same ∙ sym (cond-true (has_superblob signature) (blob_count signature) 0 (superblob_true signature whole))
 
 pub none_counted : (signature : List ℕ) → HasNoSuperblob signature → 0 ≡ entry_count signature
 none_counted signature none =

@@ -9,13 +9,13 @@ use Rattle.macho_fields.specs.declared.header.loader.TheConstants as loader
 use Rattle.macho_fields.specs.declared.rule.Rule.TheVariants as rule
 use Rattle.macho_fields.proofs.Decided.{not_not, le_or_not, zero_or_none}
 use Rattle.macho_linked.specs.Rules.{BreaksImage}
-use Rattle.macho_sealed.specs.Good.{IsWholeDirectory, IsWhole}
+use Rattle.macho_sealed.specs.Good.{IsWholeDirectory, IsWholeSignature}
 use Rattle.macho_signature.specs.CodeDirectories.{code_directory, size_of_hash, slots_of, HasName, IsSound}
 use Rattle.macho_signature.specs.Signature.{bytes_at, BadDirectory, AreGoodDirectories, PartialDirectory}
 use Rattle.macho_signature.specs.Signed.{IsSignature}
 use Rattle.macho_signature.specs.Superblobs.{entry_offset, HasNoSuperblob, BadBlob, AreGoodBlobs}
 use Rattle.macho_signature.specs.declared.code_directory.CodeDirectory.{CodeDirectory}
-use Rattle.macho_signature.proofs.Signed.{signed_image}
+use Rattle.macho_signature.proofs.Signed.{signed_image, good_blobs}
 use Rattle.macho_spans.specs.declared.span.Span.{Span}
 use Rattle.macho_tables.specs.DataTables.{IsDataTable}
 
@@ -60,15 +60,12 @@ whole_directory start blob = by (code_directory blob)
 
 module _ (start : ℕ) (signature : List ℕ) (is : IsSignature start signature) (blobs : (offset : ℕ) → ¬ BadBlob signature offset) (directories : (offset : ℕ) → ¬ BadDirectory start signature offset) (wholes : (offset : ℕ) → ¬ PartialDirectory start signature offset) where
   good : AreGoodBlobs signature
-  good = record { superblob = whole; blobs = λ k less bad. blobs (entry_offset k) (inr (whole, (k, less, refl, bad))) }
-    where
-      whole : ¬ HasNoSuperblob signature
-      whole none = blobs 0 (inl (refl, none))
+  good = good_blobs signature blobs
 
   all : AreGoodDirectories start signature
   all = record { blobs = good; main = is.main; sound = λ k less bad. directories (entry_offset k) (good, inr (k, less, refl, bad)) }
 
-  is_whole : IsWhole start signature
+  is_whole : IsWholeSignature start signature
   is_whole = record {
     blobs = good;
     main = is.main;
@@ -79,7 +76,7 @@ module _ (start : ℕ) (signature : List ℕ) (is : IsSignature start signature)
 
 -- of an image
 pub whole_signature : (image : List ℕ) → NothingBreaks (BreaksImage image) → (table : Span) → IsDataTable image loader.LC_CODE_SIGNATURE table
-    → IsWhole table.start (part table.start table.len image)
+    → IsWholeSignature table.start (part table.start table.len image)
 whole_signature image kept table is =
     let signed = signed_image image (kept rule.SignatureBlob) (kept rule.SignatureDirectory) (kept rule.SignatureWhole) table is in
     is_whole table.start (part table.start table.len image) signed (λ offset broken. kept rule.SignatureBlob (table.start + offset) (table, is, (offset, refl, broken)))

@@ -7,8 +7,9 @@ use Rattle.std.proofs.lemmas.List.{length-set, get_or-set_other}
 use Rattle.std.proofs.Math.ListN.{set}
 use Rattle.macho_fields.specs.Bytes.{bytes_of}
 use Rattle.macho_fields.proofs.Options.{some_of, of_some, some_has, of_none}
-use Rattle.macho_sealed.specs.Directories.{EachDirectory, AnyDirectory, AreApart, IsDirectoryOf, IsDirectoryAmong, AreDirectories, IsWholeBefore, HasHashesInside}
-use Rattle.macho_sealed.specs.Good.{IsWhole}
+use Rattle.macho_sealed.specs.Signature.{AreApart}
+use Rattle.macho_sealed.specs.Directories.{EachDirectory, AnyDirectory, IsDirectoryOf, IsDirectoryAmong, AreDirectories, IsWholeBefore, HasHashesInside}
+use Rattle.macho_sealed.specs.Good.{IsWholeSignature}
 use Rattle.macho_sealed.specs.Slots.{slot_number}
 use Rattle.macho_sealed.specs.declared.directories.Directory.{Directory}
 use Rattle.macho_sealed.proofs.TakenSlots.{number_fits, same_number}
@@ -109,7 +110,7 @@ module _ (signature : List ℕ) (k : ℕ) (directories : List (Option Directory)
 
 module _ (signature : List ℕ) (directories : List (Option Directory)) (are : AreDirectories signature (blob_count signature) directories) where
   -- each is whole
-  pub each_whole : (start : ℕ) → IsWhole start signature → EachDirectory directories (IsWholeBefore start)
+  pub each_whole : (start : ℕ) → IsWholeSignature start signature → EachDirectory directories (IsWholeBefore start)
   each_whole start whole n = by (get_or directories n None) (are.only n)
     where
       by : (found : Option Directory) → IfSome found (λ one. IsDirectoryAmong signature (blob_count signature) (Some one)) → IfSome found (IsWholeBefore start)

@@ -15,7 +15,7 @@ use Rattle.macho_fields.specs.declared.rule.Rule.{Rule}
 use Rattle.macho_fields.specs.declared.rule.Rule.TheVariants as rule
 use Rattle.macho_image.specs.Command.{first_with_cmd}
 use Rattle.macho_image.proofs.ReadParts.{length-part}
-use Rattle.macho_sealed.specs.Good.{IsWhole}
+use Rattle.macho_sealed.specs.Good.{IsWholeSignature}
 use Rattle.macho_linked.specs.Rules.{BreaksImage as BreaksLinked}
 use Rattle.macho_sealed.specs.Rules.{BreaksImage}
 use Rattle.macho_sealed.specs.Signature.{RepeatedDirectory, HasOtherHash, BadHash}
@@ -67,7 +67,7 @@ special_near signature good blob directory offset (k, less, at, other) =
     omega (arith, at, inside, filled)
 
 -- or before it
-pub hash_near : (image : List ℕ) (start : ℕ) (signature : List ℕ) → IsWhole start signature → (place : ℕ) → BadHash image start signature place → place ≤ start + length signature
+pub hash_near : (image : List ℕ) (start : ℕ) (signature : List ℕ) → IsWholeSignature start signature → (place : ℕ) → BadHash image start signature place → place ≤ start + length signature
 hash_near image start signature whole place (k, less, (is_directory, other)) = by (code_directory (bytes_at signature k)) (whole.directories k less is_directory) other
   where
     by : (read : Option CodeDirectory) → IsSomeAnd read (λ directory. IsSound start (bytes_at signature k) directory × (directory.limit ≡ start))
@@ -88,7 +88,7 @@ module _ (image : List ℕ) (none : NothingBreaks (Breaks image None)) (linked :
       let size = length-part table.start table.len image inside in
       omega (arith, near, size, inside)
 
-  signature_inside : (Rule : ℕ → List ℕ → ℕ → Type 0) → ((start : ℕ) (bytes : List ℕ) → IsWhole start bytes → (offset : ℕ) → Rule start bytes offset → offset ≤ length bytes)
+  signature_inside : (Rule : ℕ → List ℕ → ℕ → Type 0) → ((start : ℕ) (bytes : List ℕ) → IsWholeSignature start bytes → (offset : ℕ) → Rule start bytes offset → offset ≤ length bytes)
       → (place : ℕ) → InSignature image Rule place → place ≤ length image
   signature_inside Rule near place (table, is, (offset, at, broken)) =
       let within = near table.start (part table.start table.len image) (whole_signature image linked table is) offset broken in
@@ -116,6 +116,6 @@ missing_first image none b named at = (
     first r place broken (inr (same, low)) = omega (arith, low, at)
 
 -- one with a signature does not
-pub not_missing : (image : List ℕ) (table : Span) → IsDataTable image loader.LC_CODE_SIGNATURE table → IsWhole table.start (part table.start table.len image)
+pub not_missing : (image : List ℕ) (table : Span) → IsDataTable image loader.LC_CODE_SIGNATURE table → IsWholeSignature table.start (part table.start table.len image)
     → KeptBelow (BreaksImage image) (rank rule.DirectoryRepeated)
 not_missing image table is whole r place early broken = first_kept image (λ p missing. missing.1 (table, is, whole.main)) r place early broken

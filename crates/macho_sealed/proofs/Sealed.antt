@@ -15,7 +15,7 @@ use Rattle.macho_fields.specs.declared.rule.Rule.TheVariants as rule
 use Rattle.macho_fields.proofs.Decided.{not_not, both_or_not, le_or_not}
 use Rattle.macho_image.specs.Command.{first_with_cmd}
 use Rattle.macho_linked.specs.Rules.{BreaksImage as BreaksLinked, IsLinkedUnbroken}
-use Rattle.macho_sealed.specs.Good.{IsWhole}
+use Rattle.macho_sealed.specs.Good.{IsWholeSignature}
 use Rattle.macho_sealed.specs.Pages.{bytes_in, page_at, code_slot}
 use Rattle.macho_sealed.specs.Rules.{BreaksImage, IsSealedUnbroken}
 use Rattle.macho_sealed.specs.Sealed.{Seals, IsSeal, IsSealed, AreSealed}
@@ -82,7 +82,7 @@ module _ (image : List ℕ) (start : ℕ) (signature blob : List ℕ) (directory
 
 -- A signature
 
-module _ (image : List ℕ) (start : ℕ) (signature : List ℕ) (signed : IsSignature start signature) (whole : IsWhole start signature)
+module _ (image : List ℕ) (start : ℕ) (signature : List ℕ) (signed : IsSignature start signature) (whole : IsWholeSignature start signature)
     (repeated : (offset : ℕ) → ¬ RepeatedDirectory signature offset) (slack : (offset : ℕ) → ¬ NonZeroSlack image start signature offset) (hashes : (place : ℕ) → ¬ BadHash image start signature place) where
   directory_seals : (k : ℕ) → k < blob_count signature → IsDirectoryAt signature k → IsSomeAnd (code_directory (bytes_at signature k)) (Seals image start signature (bytes_at signature k))
   directory_seals k less is = by (code_directory (bytes_at signature k)) (whole.directories k less is) (λ place other. hashes place (k, less, (is, other)))

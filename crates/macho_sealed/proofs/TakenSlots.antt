@@ -5,8 +5,7 @@ use Rattle.std.proofs.lemmas.Bool.{cases_lt, cases_eq, cases_Bool, false≢true,
 use Rattle.std.proofs.lemmas.Grind.{get_or-set_at}
 use Rattle.std.proofs.lemmas.List.{length-set, get_or-set_other}
 use Rattle.std.proofs.Math.ListN.{set}
-use Rattle.macho_sealed.specs.Directories.{AreApart}
-use Rattle.macho_sealed.specs.Signature.{IsRepeated, RepeatedDirectory}
+use Rattle.macho_sealed.specs.Signature.{AreApart, IsRepeated, RepeatedDirectory}
 use Rattle.macho_sealed.specs.Slots.{slot_number, HasSlot, AreTaken}
 use Rattle.macho_signature.specs.Superblobs.{blob_at, entry_offset, is_directory_slot}
 

@@ -4,7 +4,6 @@ use Rattle.std.specs.Prelude.{◌≡◌, ℕ, ◌≤◌, ◌<◌, List, length, 
 use Rattle.macho_fields.specs.Bytes.{bytes_of}
 use Rattle.macho_sealed.specs.Digests.{HasHash}
 use Rattle.macho_sealed.specs.Pages.{bytes_in, code_slot, BadPage}
-use Rattle.macho_sealed.specs.Signature.{HaveSameSlot}
 use Rattle.macho_sealed.specs.Slots.{slot_number}
 use Rattle.macho_sealed.specs.Specials.{HasSpecialHash, BadSpecial}
 use Rattle.macho_sealed.specs.declared.directories.Directory.{Directory}
@@ -22,11 +21,6 @@ abbrev pub AnyDirectory : List (Option Directory) → (Directory → Type 0) →
 AnyDirectory directories P = (n : ℕ) × IsSomeAnd (get_or directories n None) P
 
 -- Those of a signature
-
--- no two are in one slot
-abbrev pub AreApart : List ℕ → Type 0
-AreApart signature =
-    (j k : ℕ) → j < k → k < blob_count signature → IsDirectoryAt signature k → ¬ HaveSameSlot signature j k
 
 -- the code directory that a blob is, with the bytes of that, or none
 abbrev pub IsDirectoryOf : List ℕ → Option Directory → Type 0

@@ -11,7 +11,7 @@ IsWholeDirectory start blob =
 
 -- its blobs are in place, one is in the slot of the code directory that each signature has, and each in a slot of
 -- code directories is one
-pub record IsWhole (start : ℕ) (signature : List ℕ) : Type 0 where
+pub record IsWholeSignature (start : ℕ) (signature : List ℕ) : Type 0 where
   pub blobs : AreGoodBlobs signature
   pub main : HasMain signature (blob_count signature)
   pub directories : (k : ℕ) → k < blob_count signature → IsDirectoryAt signature k

@@ -1,10 +1,11 @@
 -- Where each sealed rule is broken, by an image that breaks no other rule: the rule, and the place that is reported.
 -- docs/SEALED.md says the same in words.
-use Rattle.std.specs.Prelude.{ℕ, List, Option}
-use Rattle.macho_fields.specs.First.{BreaksIn, NoneIsBroken, IsFirstOfAll}
+use Rattle.std.specs.Prelude.{ℕ, List}
+use Rattle.macho_fields.specs.First.{NoneIsBroken, IsFirstOfAll}
 use Rattle.macho_fields.specs.declared.rule.Break.{Break}
 use Rattle.macho_fields.specs.declared.rule.Rule.{Rule}
 use Rattle.macho_fields.specs.declared.rule.Rule.TheVariants as rule
+use Rattle.macho_rules.specs.Profile.{NoFileRule, AddedIn}
 use Rattle.macho_sealed.specs.Signature.{BreaksSignatureMissing, BreaksDirectoryRepeated, BreaksSignatureSlack, BreaksSignatureHash}
 
 -- the image breaks the rule at the place
@@ -15,17 +16,9 @@ BreaksImage image rule.SignatureSlack place = BreaksSignatureSlack image place
 BreaksImage image rule.SignatureHash place = BreaksSignatureHash image place
 BreaksImage image other place = ⊥
 
--- a file breaks none but in its images
-abbrev pub BreaksFile : List ℕ → Rule → ℕ → Type 0
-BreaksFile file r place = ⊥
-
--- an image breaks a sealed rule, whatever architecture a universal file names for it
-abbrev pub BreaksSlice : List ℕ → Option (ℕ × ℕ) → Rule → ℕ → Type 0
-BreaksSlice image arch = BreaksImage image
-
 -- the sealed rule is broken there, by the bytes of a 64-bit slice
 abbrev pub IsBrokenIn : List ℕ → ℕ → Rule → ℕ → Type 0
-IsBrokenIn = BreaksIn BreaksFile BreaksSlice
+IsBrokenIn = AddedIn NoFileRule BreaksImage
 
 -- no sealed rule is broken
 abbrev pub IsSealedUnbroken : List ℕ → Type 0

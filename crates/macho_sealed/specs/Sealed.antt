@@ -1,13 +1,13 @@
 -- What the code signature of an image that breaks no rule seals: each byte before it, and each blob with a hash. Each
 -- other byte of the image is zero, or in a part of the signature. (cs_blobs.h: CS_SuperBlob, CS_CodeDirectory; FIPS 180-4)
-use Rattle.std.specs.Prelude.{◌≡◌, ℕ, ◌+◌, ◌≤◌, ◌<◌, ◌⊎◌, List, All, IsSomeAnd}
+use Rattle.std.specs.Prelude.{◌≡◌, ℕ, ◌+◌, ◌≤◌, ◌<◌, ◌⊎◌, List, IsSomeAnd}
 use Rattle.macho_fields.specs.Field.{part}
 use Rattle.macho_fields.specs.NonZero.{IsNonZero}
-use Rattle.macho_fields.specs.Universal.{slices_of, slice_bytes, IsImage}
+use Rattle.macho_fields.specs.Universal.{OfEachImage}
 use Rattle.macho_fields.specs.declared.header.loader.TheConstants as loader
 use Rattle.macho_sealed.specs.Digests.{HasHash}
 use Rattle.macho_sealed.specs.Pages.{bytes_in, page_at, code_slot}
-use Rattle.macho_sealed.specs.Signature.{HaveSameSlot}
+use Rattle.macho_sealed.specs.Signature.{AreApart}
 use Rattle.macho_sealed.specs.Specials.{IsSpecialAt, HasSpecialHash}
 use Rattle.macho_signature.specs.CodeDirectories.{code_directory}
 use Rattle.macho_signature.specs.Signature.{IsDirectoryAt, bytes_at}
@@ -44,7 +44,7 @@ pub record IsSeal (image : List ℕ) (start : ℕ) (signature : List ℕ) : Type
   -- each code directory seals the image, and no two are in one slot
   pub directories : (k : ℕ) → k < blob_count signature → IsDirectoryAt signature k
       → IsSomeAnd (code_directory (bytes_at signature k)) (Seals image start signature (bytes_at signature k))
-  pub apart : (j k : ℕ) → j < k → k < blob_count signature → IsDirectoryAt signature k → ¬ HaveSameSlot signature j k
+  pub apart : AreApart signature
   -- a byte of the image, from the start of the signature on, that is not zero is in the superblob with its index, or
   -- in a blob
   pub rest : (offset : ℕ) → IsNonZero image (start + offset)
@@ -59,5 +59,4 @@ IsSealed image =
 
 -- of a file: each 64-bit slice has
 abbrev pub AreSealed : List ℕ → Type 0
-AreSealed file =
-    All (λ slice. IsImage (slice_bytes file slice) → IsSealed (slice_bytes file slice)) (slices_of file)
+AreSealed = OfEachImage IsSealed

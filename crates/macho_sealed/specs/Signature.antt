@@ -35,6 +35,11 @@ IsRepeated signature k = IsDirectoryAt signature k × WithEarlier (HaveSameSlot 
 abbrev pub RepeatedDirectory : List ℕ → ℕ → Type 0
 RepeatedDirectory signature offset = AtItem entry_offset (blob_count signature) (IsRepeated signature) offset
 
+-- no entry is so: no two code directories are in one slot
+abbrev pub AreApart : List ℕ → Type 0
+AreApart signature =
+    (j k : ℕ) → j < k → k < blob_count signature → IsDirectoryAt signature k → ¬ HaveSameSlot signature j k
+
 -- signature-slack, at a byte of the image from the start of the signature on, up to the end of the image: it is not
 -- zero, and lies neither in the superblob with its index nor in a blob
 abbrev pub IsSlack : List ℕ → ℕ → Type 0

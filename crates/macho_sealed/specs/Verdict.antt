@@ -1,13 +1,11 @@
 -- The sealed verdict on a file. It takes memory where the linked one does.
-use Rattle.std.specs.Prelude.{◌≡◌, ℕ, ◌+◌, ◌⊎◌, List}
-use Rattle.macho_fields.specs.First.{IsUnbroken, scope_start}
-use Rattle.macho_fields.specs.Layers.{IsLeast}
-use Rattle.macho_fields.specs.declared.rule.Break.{Break}
+use Rattle.std.specs.Prelude.{ℕ, ◌⊎◌, List}
+use Rattle.macho_fields.specs.First.{IsUnbroken}
 use Rattle.macho_linked.specs.Rules.{IsLinkedUnbroken}
 use Rattle.macho_linked.specs.Verdict.{IsLinkedRefusal}
 use Rattle.macho_rules.specs.declared.refusal.Refusal.{Refusal}
 use Rattle.macho_rules.specs.declared.refusal.Refusal.TheVariants as refusal
-use Rattle.macho_sealed.specs.Rules.{IsBrokenIn, IsFirstSealedBroken}
+use Rattle.macho_sealed.specs.Rules.{IsFirstSealedBroken}
 use Rattle.macho_strict.specs.First.{IsStrictlyUnbroken}
 
 -- the file breaks no rule of the profiles before the sealed one
@@ -22,8 +20,6 @@ IsSealedRefusal file (refusal.Broken b) =
     IsLinkedRefusal file (refusal.Broken b) ⊎ (IsUnbrokenBefore file × IsFirstSealedBroken file b)
 IsSealedRefusal file refusal.Memory = IsLinkedRefusal file refusal.Memory
 
--- a break of a scope is its first broken sealed rule, with its place in the file
-abbrev pub IsScopeBreak : List ℕ → ℕ → Break → Type 0
-IsScopeBreak file scope b =
-    (found : Break) × IsLeast (IsBrokenIn file scope) found
-    × (b.rule ≡ found.rule) × (b.place ≡ scope_start file scope + found.place)
+-- an image never takes memory by the sealed rules
+abbrev pub TakesMemory : List ℕ → Type 0
+TakesMemory image = ⊥

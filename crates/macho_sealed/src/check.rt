@@ -2,22 +2,22 @@
 
 ghost use Rattle.std.specs.Prelude.{◌≤◌, length, None};
 ghost use Rattle.macho_fields.specs.Field.{part};
-ghost use Rattle.macho_fields.specs.First.{rank};
-ghost use Rattle.macho_fields.specs.FirstPlace.{IsLeastPlace};
-ghost use Rattle.macho_fields.specs.Layers.{NothingBreaks, KeptBelow, Continues, Decides};
+ghost use Rattle.macho_fields.specs.Layers.{NothingBreaks, Decides};
 ghost use Rattle.macho_fields.specs.Rules.{BreaksImage as Breaks};
 ghost use Rattle.macho_linked.specs.Rules.{BreaksImage as BreaksLinked};
-ghost use Rattle.macho_sealed.specs.Good.{IsWhole};
+ghost use Rattle.macho_sealed.specs.Good.{IsWholeSignature};
 ghost use Rattle.macho_sealed.specs.Rules.{BreaksImage};
 ghost use Rattle.macho_spans.specs.Span.{end_of};
 ghost use Rattle.macho_tables.specs.DataTables.{IsDataTable};
 
 use crate::hashes::first_other_hash;
+use crate::profile::Sealed;
 use crate::repeated::first_repeated;
 use crate::slack::first_slack;
 use macho_fields::header::loader::LC_CODE_SIGNATURE;
 use macho_fields::{Break, Rule, Span};
 use macho_image::Image;
+use macho_rules::ProfileRules;
 use macho_tables::data_table::data_table;
 use macho_tables::place::place_from;
 
@@ -38,25 +38,15 @@ pub(crate) fn check_image(image: &Image) -> Result<(), Break>
 fn check_signature(image: &Image, table: Span) -> Result<(), Break>
     requires table { IsDataTable image.now LC_CODE_SIGNATURE table }
     requires inside { end_of table ≤ length image.now }
-    requires whole { IsWhole table.start (part table.start table.len image.now) }
+    requires whole { IsWholeSignature table.start (part table.start table.len image.now) }
     ensures { Decides (BreaksImage image.now) result }
 {
     let bytes = image.bytes();
     let signature = bytes.slice(table);
     let repeated = place_from(table.start, first_repeated(signature));
-    judge(image, Rule::DirectoryRepeated, repeated)?;
+    Sealed::judge(image, Rule::DirectoryRepeated, repeated)?;
     let slack = first_slack(bytes, table.start, signature);
-    judge(image, Rule::SignatureSlack, slack)?;
+    Sealed::judge(image, Rule::SignatureSlack, slack)?;
     let hash = first_other_hash(bytes, table.start, signature);
-    judge(image, Rule::SignatureHash, hash)
-}
-
-// The answer of a rule, by the least place at which the image breaks it, where all earlier ones are unbroken.
-fn judge(image: &Image, rule: Rule, least: Option<u64>) -> Result<(), Break>
-    requires kept { KeptBelow (BreaksImage image.now) (rank rule) }
-    requires least { IsLeastPlace (BreaksImage image.now rule) least }
-    ensures { Continues (BreaksImage image.now) rule result }
-{
-    let _image = image;
-    rule.judge(least)
+    Sealed::judge(image, Rule::SignatureHash, hash)
 }

@@ -3,7 +3,8 @@
 
 ghost use Rattle.std.specs.Prelude.{◌≡◌, ◌↔◌, ◌<◌, IsTrue, MatchBool, MatchOption, true};
 ghost use Rattle.macho_fields.specs.Bytes.{bytes_of};
-ghost use Rattle.macho_sealed.specs.Directories.{EachDirectory, AnyDirectory, AreApart, IsDirectoryOf, AreDirectories, HasHashesInside, HasOtherSize, HasSlotFor, HasPage, HasPageOfSize, LacksPageOfSize, HasSpecial, LacksSpecial, IsOneOfSize};
+ghost use Rattle.macho_sealed.specs.Signature.{AreApart};
+ghost use Rattle.macho_sealed.specs.Directories.{EachDirectory, AnyDirectory, IsDirectoryOf, AreDirectories, HasHashesInside, HasOtherSize, HasSlotFor, HasPage, HasPageOfSize, LacksPageOfSize, HasSpecial, LacksSpecial, IsOneOfSize};
 ghost use Rattle.macho_sealed.specs.Specials.{is_special_slot};
 ghost use Rattle.macho_signature.specs.Superblobs.{blob_count, AreGoodBlobs};
 

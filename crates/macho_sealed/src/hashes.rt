@@ -3,8 +3,8 @@
 ghost use Rattle.std.specs.Prelude.{◌+◌, ◌≤◌, length};
 ghost use Rattle.macho_fields.specs.Bytes.{bytes_of};
 ghost use Rattle.macho_fields.specs.FirstPlace.{IsLeastPlace};
-ghost use Rattle.macho_sealed.specs.Directories.{AreApart};
-ghost use Rattle.macho_sealed.specs.Good.{IsWhole};
+ghost use Rattle.macho_sealed.specs.Signature.{AreApart};
+ghost use Rattle.macho_sealed.specs.Good.{IsWholeSignature};
 ghost use Rattle.macho_sealed.specs.Signature.{BadHash};
 
 use crate::directories::directories_of;
@@ -16,7 +16,7 @@ use macho_tables::place::place_from;
 // The least place of a page, or of a blob of the signature, of which a code directory has another hash. The signature
 // begins at `start` in the image, past all pages.
 pub(crate) fn first_other_hash(image: Bytes, start: u64, signature: Bytes) -> Option<u64>
-    requires whole { IsWhole start (bytes_of signature) }
+    requires whole { IsWholeSignature start (bytes_of signature) }
     requires apart { AreApart (bytes_of signature) }
     requires inside { start + length (bytes_of signature) ≤ length (bytes_of image) }
     ensures { IsLeastPlace (BadHash (bytes_of image.entry) start (bytes_of signature.entry)) result }

@@ -13,6 +13,7 @@ mod directories;
 mod hashes;
 pub mod law;
 pub mod pages;
+mod profile;
 mod repeated;
 mod signature;
 mod slack;

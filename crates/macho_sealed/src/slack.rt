@@ -5,10 +5,10 @@ ghost use Rattle.macho_fields.specs.Bytes.{bytes_of};
 ghost use Rattle.macho_fields.specs.FirstPlace.{IsLeastPlace};
 ghost use Rattle.macho_sealed.specs.Slack.{IsSlackAt};
 ghost use Rattle.macho_signature.specs.Superblobs.{AreGoodBlobs};
-ghost use Rattle.macho_strict.specs.Slack.{IsNonZeroWithin};
 
 use crate::signature::{blob_at, superblob_of};
-use macho_fields::{Bytes, Span};
+use macho_fields::Bytes;
+use macho_strict::slack::nonzero_within;
 
 // The first byte of an image, from its signature on, that is not zero, and lies neither in the superblob with its index
 // nor in a blob. The signature begins at `start` in the image.
@@ -23,22 +23,11 @@ pub(crate) fn first_slack(image: Bytes, start: u64, signature: Bytes) -> Option<
     for index in 0..superblob.count {
         let blob = blob_at(signature, superblob, index);
         let next = start + u64::from(blob.offset);
-        let slack = first_nonzero(image, end, next);
+        let slack = nonzero_within(image, end, next);
         if slack.is_some() {
             return slack;
         }
         end = start + blob.end();
     }
-    first_nonzero(image, end, image.len())
-}
-
-// The least place from `start` up to `end` of a byte that is not zero.
-fn first_nonzero(image: Bytes, start: u64, end: u64) -> Option<u64>
-    requires { start ≤ end }
-    ensures { IsLeastPlace (IsNonZeroWithin (bytes_of image.entry) start end) result }
-{
-    image.first_nonzero(Span {
-        start,
-        len: end - start,
-    })
+    nonzero_within(image, end, image.len())
 }

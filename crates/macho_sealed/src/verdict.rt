@@ -1,27 +1,25 @@
 //! The sealed verdict on a file.
 
-ghost use Rattle.std.specs.Prelude.{◌≡◌, suc, OnOk, IfOk, IfErr};
+ghost use Rattle.std.specs.Prelude.{◌≡◌, OnOk, IfOk, IfErr};
 ghost use Rattle.macho_chains.specs.ChainDyld.{AreChainedSafely};
 ghost use Rattle.macho_commands.specs.Sound.{AreSoundCommands};
 ghost use Rattle.macho_exports.specs.ExportLaw.{HasSoundExports};
 ghost use Rattle.macho_fields.specs.First.{IsUnbroken};
-ghost use Rattle.macho_fields.specs.Layers.{NothingBreaks};
 ghost use Rattle.macho_fields.specs.Loader.{IsSound};
 ghost use Rattle.macho_linked.specs.Dyld.{AreFollowedSafely};
 ghost use Rattle.macho_linked.specs.Harmless.{AreHarmless};
 ghost use Rattle.macho_linked.specs.Located.{AreLocated};
 ghost use Rattle.macho_linked.specs.Rules.{IsLinkedUnbroken};
-ghost use Rattle.macho_sealed.specs.Rules.{IsBrokenIn, IsSealedUnbroken, IsFirstSealedBroken};
+ghost use Rattle.macho_sealed.specs.Rules.{IsSealedUnbroken};
 ghost use Rattle.macho_sealed.specs.Sealed.{AreSealed};
-ghost use Rattle.macho_sealed.specs.Verdict.{IsSealedRefusal, IsScopeBreak};
+ghost use Rattle.macho_sealed.specs.Verdict.{IsSealedRefusal};
 ghost use Rattle.macho_signature.specs.Signed.{AreSigned};
 ghost use Rattle.macho_strict.specs.Accounted.{IsAccounted};
 ghost use Rattle.macho_strict.specs.First.{IsStrictlyUnbroken};
 
-use crate::check::check_image;
-use macho_fields::Break;
+use crate::profile::Sealed;
 use macho_linked::verify_linked;
-use macho_rules::{Refusal, Verified};
+use macho_rules::{Refusal, Verified, check_images};
 use std::alloc::Global;
 
 /// Decides the rules of a file as `macho_linked::verify_linked` does, and then the sealed rules, in their order:
@@ -57,43 +55,6 @@ pub fn verify_sealed<'a>(alloc: Global, file: &'a [u8]) -> Result<Verified<'a>, 
     ensures file { IfOk result (λ verified. verified ≡ file.now) }
 {
     let verified = verify_linked(alloc, file)?;
-    check_sealed(&verified)?;
+    check_images::<Sealed>(alloc, &verified)?;
     Ok(verified)
-}
-
-// Decides the sealed rules of each 64-bit slice of a file, one slice after the other. The place of a break is its
-// offset in the file.
-fn check_sealed(verified: &Verified) -> Result<(), Break>
-    requires { IsLinkedUnbroken verified.now }
-    ensures unbroken { OnOk result (IsSealedUnbroken verified.now) }
-    ensures refused { IfErr result (IsFirstSealedBroken verified.now) }
-{
-    for index in 0..verified.slice_count() {
-        check_slice(verified, index)?;
-    }
-    Ok(())
-}
-
-// Decides the sealed rules of the slice with this index, if it has an image. The place of a break is its offset in
-// the file.
-fn check_slice(verified: &Verified, index: u64) -> Result<(), Break>
-    requires { IsLinkedUnbroken verified.now }
-    ensures unbroken { OnOk result (NothingBreaks (IsBrokenIn verified.now (suc index))) }
-    ensures refused { IfErr result (IsScopeBreak verified.now (suc index)) }
-{
-    let Some(slice) = verified.slice(index) else {
-        return Ok(());
-    };
-    let Some(image) = verified.image(index) else {
-        return Ok(());
-    };
-    match check_image(&image) {
-        Ok(()) => Ok(()),
-        Err(broken) => {
-            // The image lies in the file, so its places do too.
-            prove!(verified.bytes().len() <= u64::MAX);
-            let place = slice.span.start + broken.place;
-            Err(Break::at(broken.rule, place))
-        }
-    }
 }

@@ -8,7 +8,7 @@ use Rattle.macho_fields.proofs.Decided.{not_not, le_or_not, zero_or_none}
 use Rattle.macho_fields.proofs.Strings.{zero_after}
 use Rattle.macho_signature.specs.CodeDirectories.{code_directory, slots_of, IsSound}
 use Rattle.macho_signature.specs.Signature.{IsDirectoryAt, bytes_at, HasMain, BadDirectory, AreGoodDirectories, PartialDirectory, BreaksSignatureBlob, BreaksSignatureDirectory, BreaksSignatureWhole}
-use Rattle.macho_signature.specs.Signed.{IsPlaced, Covers, IsSignature, IsSigned, page_of}
+use Rattle.macho_signature.specs.Signed.{IsPlacedBlob, CoversPages, IsSignature, IsSigned, page_of}
 use Rattle.macho_signature.specs.Superblobs.{superblob_at, blob_count, entry_offset, blob_at, blob_end, least_offset, HasNoSuperblob, IsMisplacedBlob, BadBlob, AreGoodBlobs}
 use Rattle.macho_signature.specs.declared.code_directory.CodeDirectory.{CodeDirectory}
 use Rattle.macho_signature.specs.declared.cs_blobs.TheConstants as cs
@@ -27,7 +27,7 @@ well_placed superblob least blob good = (
   elim (cases_lt superblob.length (blob_end blob)) [ inl bad ↦ absurd (good (inr (inr (inr bad)))) | inr fits ↦ fits ],
 )
 
-superblob_inside : (signature : List ℕ) → ¬ HasNoSuperblob signature → (superblob_at signature).length ≤ length signature
+pub superblob_inside : (signature : List ℕ) → ¬ HasNoSuperblob signature → (superblob_at signature).length ≤ length signature
 superblob_inside signature whole = elim (cases_lt (length signature) (superblob_at signature).length) [ inl past ↦ absurd (whole (inr (inr (inl past)))) | inr inside ↦ inside ]
 
 module _ (signature : List ℕ) (good : AreGoodBlobs signature) where
@@ -44,7 +44,7 @@ module _ (signature : List ℕ) (good : AreGoodBlobs signature) where
       let next = (blob_fits (suc k) less).0 in
       omega (arith, before, next)
 
-  placed : (k : ℕ) → k < blob_count signature → IsPlaced signature k
+  placed : (k : ℕ) → k < blob_count signature → IsPlacedBlob signature k
   placed k less =
       let fits = blob_fits k less in
       let inside = superblob_inside signature good.superblob in
@@ -95,7 +95,7 @@ module _ (start : ℕ) (blob : List ℕ) (directory : CodeDirectory) (sound : ¬
     | inr other ↦ absurd (sound (λ is. other is.slots.slots))
   ]
 
-  pub covers : Covers start blob directory
+  pub covers : CoversPages start blob directory
   covers = record {
     code = λ k less. let row = row_fits k directory.hash_size directory.code_slots directory.hash_size less (omega arith) in omega (arith, row, code_fits);
     special = λ k less.
@@ -109,12 +109,16 @@ module _ (start : ℕ) (blob : List ℕ) (directory : CodeDirectory) (sound : ¬
         (not_not (zero_or_none blob directory.team_offset (length blob)) (λ none. sound (λ is. elim is.team [ inl at ↦ some at | inr has ↦ none has ])));
   }
 
+-- where no blob is bad, all are good
+pub good_blobs : (signature : List ℕ) → ((offset : ℕ) → ¬ BadBlob signature offset) → AreGoodBlobs signature
+good_blobs signature blobs = record { superblob = whole; blobs = λ k less bad. blobs (entry_offset k) (inr (whole, (k, less, refl, bad))) }
+  where
+    whole : ¬ HasNoSuperblob signature
+    whole none = blobs 0 (inl (refl, none))
+
 module _ (start : ℕ) (signature : List ℕ) (blobs : (offset : ℕ) → ¬ BadBlob signature offset) (directories : (offset : ℕ) → ¬ BadDirectory start signature offset) (wholes : (offset : ℕ) → ¬ PartialDirectory start signature offset) where
   good : AreGoodBlobs signature
-  good = record { superblob = whole; blobs = λ k less bad. blobs (entry_offset k) (inr (whole, (k, less, refl, bad))) }
-    where
-      whole : ¬ HasNoSuperblob signature
-      whole none = blobs 0 (inl (refl, none))
+  good = good_blobs signature blobs
 
   all : AreGoodDirectories start signature
   all = record {
@@ -123,11 +127,11 @@ module _ (start : ℕ) (signature : List ℕ) (blobs : (offset : ℕ) → ¬ Bad
     sound = λ k less bad. directories (entry_offset k) (good, inr (k, less, refl, bad));
   }
 
-  directory_covers : (k : ℕ) → k < blob_count signature → IsDirectoryAt signature k → IsSomeAnd (code_directory (bytes_at signature k)) (Covers start (bytes_at signature k))
+  directory_covers : (k : ℕ) → k < blob_count signature → IsDirectoryAt signature k → IsSomeAnd (code_directory (bytes_at signature k)) (CoversPages start (bytes_at signature k))
   directory_covers k less is = by (code_directory (bytes_at signature k)) (λ bad. all.sound k less (is, bad)) (λ other. wholes (entry_offset k) (all, (k, less, refl, (is, other))))
     where
       by : (read : Option CodeDirectory) → ¬ ¬ IsSomeAnd read (IsSound start (bytes_at signature k)) → ¬ IsSomeAnd read (λ directory. directory.limit ≢ start)
-          → IsSomeAnd read (Covers start (bytes_at signature k))
+          → IsSomeAnd read (CoversPages start (bytes_at signature k))
       by None sound partial = absurd (sound (λ none. none))
       by (Some directory) sound partial =
           let limit : directory.limit ≡ start = elim (cases_eq directory.limit start) [ inl same ↦ same | inr other ↦ absurd (partial other) ] in

@@ -1,8 +1,8 @@
 -- What a reader with no bounds finds in the code signature of an image that breaks none of its rules.
 -- (cs_blobs.h: CS_SuperBlob, CS_CodeDirectory)
-use Rattle.std.specs.Prelude.{◌≡◌, ◌≢◌, ℕ, ◌+◌, ◌*◌, ◌/◌, ◌^◌, ◌≤◌, ◌<◌, ◌==◌, List, length, All, IsSomeAnd, if◌then◌else◌}
+use Rattle.std.specs.Prelude.{◌≡◌, ◌≢◌, ℕ, ◌+◌, ◌*◌, ◌/◌, ◌^◌, ◌≤◌, ◌<◌, ◌==◌, List, length, IsSomeAnd, if◌then◌else◌}
 use Rattle.macho_fields.specs.Field.{part, IsEnded}
-use Rattle.macho_fields.specs.Universal.{slices_of, slice_bytes, IsImage}
+use Rattle.macho_fields.specs.Universal.{OfEachImage}
 use Rattle.macho_fields.specs.declared.header.loader.TheConstants as loader
 use Rattle.macho_signature.specs.CodeDirectories.{code_directory}
 use Rattle.macho_signature.specs.Signature.{IsDirectoryAt, bytes_at, HasMain}
@@ -13,7 +13,7 @@ use Rattle.macho_spans.specs.declared.span.Span.{Span}
 use Rattle.macho_tables.specs.DataTables.{IsDataTable}
 
 -- the magic and the length of the blob k are past the index, and it ends in the signature
-pub record IsPlaced (signature : List ℕ) (k : ℕ) : Type 0 where
+pub record IsPlacedBlob (signature : List ℕ) (k : ℕ) : Type 0 where
   pub start : entry_offset (blob_count signature) ≤ (blob_at signature k).offset
   pub fields : (blob_at signature k).offset + cs.CS_GENERIC_BLOB_SIZE ≤ blob_end (blob_at signature k)
   pub end : blob_end (blob_at signature k) ≤ length signature
@@ -27,7 +27,7 @@ abbrev pub IsNamed : List ℕ → ℕ → Type 0
 IsNamed blob offset = offset ≢ 0 → IsEnded blob offset (length blob)
 
 -- a code directory with this blob, of a signature that begins at a place of the image
-pub record Covers (start : ℕ) (blob : List ℕ) (directory : CodeDirectory) : Type 0 where
+pub record CoversPages (start : ℕ) (blob : List ℕ) (directory : CodeDirectory) : Type 0 where
   -- the hash of each page lies in the blob, and so does each special hash. These go back from hashOffset.
   pub code : (k : ℕ) → k < directory.code_slots
       → directory.hash_offset + k * directory.hash_size + directory.hash_size ≤ length blob
@@ -45,14 +45,14 @@ pub record Covers (start : ℕ) (blob : List ℕ) (directory : CodeDirectory) : 
 -- a signature that begins at a place of the image
 pub record IsSignature (start : ℕ) (signature : List ℕ) : Type 0 where
   -- the blobs lie in it, apart from its index, and each past those before it
-  pub placed : (k : ℕ) → k < blob_count signature → IsPlaced signature k
+  pub placed : (k : ℕ) → k < blob_count signature → IsPlacedBlob signature k
   pub apart : (j k : ℕ) → j < k → k < blob_count signature
       → blob_end (blob_at signature j) ≤ (blob_at signature k).offset
   -- a blob is in the slot of the code directory that each signature has
   pub main : HasMain signature (blob_count signature)
   -- each blob in a slot of code directories is one, and covers the bytes before the signature
   pub directories : (k : ℕ) → k < blob_count signature → IsDirectoryAt signature k
-      → IsSomeAnd (code_directory (bytes_at signature k)) (Covers start (bytes_at signature k))
+      → IsSomeAnd (code_directory (bytes_at signature k)) (CoversPages start (bytes_at signature k))
 
 -- the code signature of an image is one
 abbrev pub IsSigned : List ℕ → Type 0
@@ -62,5 +62,4 @@ IsSigned image =
 
 -- of a file: that of each 64-bit slice is
 abbrev pub AreSigned : List ℕ → Type 0
-AreSigned file =
-    All (λ slice. IsImage (slice_bytes file slice) → IsSigned (slice_bytes file slice)) (slices_of file)
+AreSigned = OfEachImage IsSigned

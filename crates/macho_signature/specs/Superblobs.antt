@@ -95,3 +95,20 @@ BadBlob signature offset =
 pub record AreGoodBlobs (signature : List ℕ) : Type 0 where
   pub superblob : ¬ HasNoSuperblob signature
   pub blobs : (k : ℕ) → k < blob_count signature → ¬ IsBadBlob signature k
+
+-- The same as tests, for lists of what passes them
+
+-- a signature has a superblob, which ends in it, and whose index ends in that
+abbrev pub has_superblob : List ℕ → Bool
+has_superblob signature =
+    nat_le cs.CS_SUPER_BLOB_SIZE (length signature)
+    && (big_word signature 0 == cs.CSMAGIC_EMBEDDED_SIGNATURE
+    && (nat_le (superblob_at signature).length (length signature)
+    && nat_le (entry_offset (blob_count signature)) (superblob_at signature).length))
+
+-- a blob begins at the least offset or past it, has room for its magic and length, and ends in the superblob
+abbrev pub is_placed : Superblob → ℕ → Blob → Bool
+is_placed superblob least blob =
+    nat_le least blob.offset
+    && (nat_le (blob.offset + cs.CS_GENERIC_BLOB_SIZE) superblob.length
+    && (nat_le cs.CS_GENERIC_BLOB_SIZE blob.length && nat_le (blob_end blob) superblob.length))

@@ -223,8 +223,8 @@ fn code_limit(blob: Bytes) -> u64
     u64::from(word_at(blob, CODE_LIMIT))
 }
 
-// Whether a name at this offset ends in the blob. There is none at 0.
-fn has_name(blob: Bytes, offset: u32) -> bool
+/// Whether a name at this offset of a blob ends in it. There is none at 0.
+pub fn has_name(blob: Bytes, offset: u32) -> bool
     ensures { IsTrue result ↔ HasName (bytes_of blob.entry) offset }
 {
     offset == 0 || ends_inside(blob, u64::from(offset))

@@ -29,7 +29,8 @@ use Rattle.macho_fields.proofs.Scopes.{of_slice}
 use Rattle.macho_fields.proofs.Sound.{begins, unbroken_is_sound}
 use Rattle.macho_strict.specs.Accounted.{ExactlyOne, IsAccountedImage, IsAccounted}
 use Rattle.macho_strict.specs.Elements.{elements_of}
-use Rattle.macho_strict.specs.First.{IsStrictlyUnbroken, BreaksStrictSlice}
+use Rattle.macho_rules.proofs.Profiles.{image_keeps}
+use Rattle.macho_strict.specs.First.{IsStrictlyUnbroken}
 use Rattle.macho_fields.specs.Layers.{NothingBreaks}
 use Rattle.macho_strict.specs.Rules.{IsByteOfSegment, all_segments, BreaksStrictFile, BreaksStrictImage, IsInName, IsSlack, IsNop}
 use Rattle.macho_strict.specs.declared.elements.Element.{Element}
@@ -229,4 +230,4 @@ module _ (file : List ℕ) (unbroken : IsUnbroken file) (strictly : IsStrictlyUn
           image_accounted (slice_bytes file slice)
           (commands_of_walk (slice_bytes file slice) slice.arch (λ place broken. unbroken (record { scope = suc k; rule = rule.CommandWalk; place = place })
           (of_slice layout.BreaksFile layout.BreaksImage file k slice at image rule.CommandWalk place (inl broken))))
-          (λ r place broken. strictly (record { scope = suc k; rule = r; place = place }) (of_slice BreaksStrictFile BreaksStrictSlice file k slice at image r place broken))
+          (image_keeps file BreaksStrictFile BreaksStrictImage strictly k slice at image)

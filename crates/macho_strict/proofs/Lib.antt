@@ -9,7 +9,6 @@ pub mod Sharings
 pub mod Occupied
 pub mod Passed
 pub mod Sorted
-pub mod Judged
 pub mod Encryptions
 pub mod SliceSpans
 pub mod CommandsEnd

@@ -1,6 +1,6 @@
 -- What the strict rules promise of a file: every nonzero byte is accounted for, and no byte is in two
 -- elements.
-use Rattle.std.specs.Prelude.{◌≡◌, ℕ, ◌+◌, ◌<◌, ◌⊎◌, List, slice_get, Some, All, Any, Contains}
+use Rattle.std.specs.Prelude.{◌≡◌, ℕ, ◌+◌, ◌<◌, ◌⊎◌, List, slice_get, Some, Any, Contains}
 use Rattle.macho_fields.specs.Command.{least_size}
 use Rattle.macho_fields.specs.Image.{command_cmd, command_size, commands_of, commands_end}
 use Rattle.macho_fields.specs.LoadCommands.{structure_of}
@@ -8,7 +8,7 @@ use Rattle.macho_fields.specs.NonZero.{IsNonZero}
 use Rattle.macho_fields.specs.declared.header.loader.TheConstants as loader
 use Rattle.macho_fields.specs.declared.load_command.Structure.{Structure}
 use Rattle.macho_spans.specs.Span.{Covers, Holds}
-use Rattle.macho_fields.specs.Universal.{IsUniversal, table_end, slices_of, slice_bytes, HasPlace, IsImage}
+use Rattle.macho_fields.specs.Universal.{IsUniversal, table_end, slices_of, HasPlace, OfEachImage}
 use Rattle.macho_strict.specs.Elements.{elements_of}
 use Rattle.macho_strict.specs.Rules.{IsByteOfSegment, all_segments, IsInName, IsNop}
 use Rattle.macho_strict.specs.declared.elements.Element.{Element}
@@ -53,5 +53,4 @@ pub record IsAccounted (file : List ℕ) : Type 0 where
       → (IsUniversal file × (place < table_end file))
       ⊎ ExactlyOne (λ slice. HasPlace slice place) (slices_of file)
   -- each 64-bit slice is accounted for
-  pub images : All (λ slice. IsImage (slice_bytes file slice)
-      → IsAccountedImage (slice_bytes file slice)) (slices_of file)
+  pub images : OfEachImage IsAccountedImage file

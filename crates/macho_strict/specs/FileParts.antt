@@ -11,7 +11,7 @@ use Rattle.macho_strict.specs.declared.segments.FilePartSurvey.{FilePartSurvey}
 
 -- whether no two share a place, the least place of a byte that is not zero and lies in none of them, and
 -- their order
-pub record IsSurveyOf (image : List ℕ) (survey : FilePartSurvey) : Type 0 where
+pub record IsFilePartSurveyOf (image : List ℕ) (survey : FilePartSurvey) : Type 0 where
   pub opened : IsOpened image
   pub apart : survey.apart ≡ true → (j : ℕ) → ¬ SharesEarlier (file_parts image) j
   pub ascend : IsAscending (file_parts image) → survey.apart ≡ true

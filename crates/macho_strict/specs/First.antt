@@ -1,17 +1,14 @@
 -- The first broken strict rule of a file.
-use Rattle.std.specs.Prelude.{ℕ, List, Option}
-use Rattle.macho_fields.specs.First.{BreaksIn, NoneIsBroken, IsFirstOfAll}
+use Rattle.std.specs.Prelude.{ℕ, List}
+use Rattle.macho_fields.specs.First.{NoneIsBroken, IsFirstOfAll}
 use Rattle.macho_fields.specs.declared.rule.Rule.{Rule}
 use Rattle.macho_fields.specs.declared.rule.Break.{Break}
+use Rattle.macho_rules.specs.Profile.{AddedIn}
 use Rattle.macho_strict.specs.Rules.{BreaksStrictFile, BreaksStrictImage}
-
--- an image breaks a strict rule, whatever architecture a universal file names for it
-abbrev pub BreaksStrictSlice : List ℕ → Option (ℕ × ℕ) → Rule → ℕ → Type 0
-BreaksStrictSlice image arch = BreaksStrictImage image
 
 -- the strict rule is broken there: by the file, or by the bytes of a 64-bit slice
 abbrev pub IsStrictlyBrokenIn : List ℕ → ℕ → Rule → ℕ → Type 0
-IsStrictlyBrokenIn = BreaksIn BreaksStrictFile BreaksStrictSlice
+IsStrictlyBrokenIn = AddedIn BreaksStrictFile BreaksStrictImage
 
 -- no strict rule is broken
 abbrev pub IsStrictlyUnbroken : List ℕ → Type 0

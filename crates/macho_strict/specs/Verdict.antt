@@ -1,21 +1,20 @@
 -- The strict verdict on a file, and where it takes memory.
-use Rattle.std.specs.Prelude.{◌≡◌, ℕ, suc, zero, ◌+◌, ◌<◌, ◌⊎◌, List, map, slice_get, slice_index, Any, IsSomeAnd}
-use Rattle.macho_fields.specs.First.{IsUnbroken, IsFirstBroken, scope_start}
+use Rattle.std.specs.Prelude.{◌≡◌, ℕ, suc, zero, ◌<◌, ◌⊎◌, List, map, slice_index, Any}
+use Rattle.macho_fields.specs.First.{IsUnbroken, IsFirstBroken}
 use Rattle.macho_spans.specs.Overlap.{IsAscending}
 use Rattle.macho_fields.specs.Image.{commands_of, with_cmd}
 use Rattle.macho_fields.specs.Segment.{fileoff, filesize}
-use Rattle.macho_fields.specs.Universal.{slices_of, slice_bytes}
+use Rattle.macho_fields.specs.Universal.{slices_of}
 use Rattle.macho_fields.specs.declared.header.loader.TheConstants as loader
 use Rattle.macho_spans.specs.declared.span.Span.{Span}
+use Rattle.macho_rules.specs.Profile.{TakesInSlice}
 use Rattle.macho_rules.specs.Verdict.{FileTakesMemory}
 use Rattle.macho_rules.specs.declared.refusal.Refusal.{Refusal}
 use Rattle.macho_rules.specs.declared.refusal.Refusal.TheVariants as refusal
 use Rattle.macho_strict.specs.Elements.{elements_of}
-use Rattle.macho_strict.specs.First.{IsStrictlyBrokenIn, IsFirstStrictlyBroken}
-use Rattle.macho_fields.specs.Layers.{IsLeast}
+use Rattle.macho_strict.specs.First.{IsFirstStrictlyBroken}
 use Rattle.macho_strict.specs.Gaps.{IsFree}
 use Rattle.macho_strict.specs.Rules.{all_segments, cryptsize}
-use Rattle.macho_fields.specs.declared.rule.Break.{Break}
 
 -- the places of the slices of a file, in table order
 abbrev pub slice_spans : List ℕ → List Span
@@ -52,8 +51,7 @@ TakesMemory image =
 -- the slices of a file do not ascend, or the image in a slice takes memory
 abbrev pub TakesMemoryIn : List ℕ → ℕ → Type 0
 TakesMemoryIn file zero = ¬ IsAscending (slice_spans file)
-TakesMemoryIn file (suc k) =
-    IsSomeAnd (slice_get (slices_of file) k) (λ slice. TakesMemory (slice_bytes file slice))
+TakesMemoryIn file (suc k) = TakesInSlice TakesMemory file (suc k)
 
 -- The strict verdict on a file takes memory: that by the rules of the layout does, or the file breaks
 -- none of these, and a scope takes some.
@@ -67,17 +65,3 @@ abbrev pub IsStrictRefusal : List ℕ → Refusal → Type 0
 IsStrictRefusal file (refusal.Broken b) =
     IsFirstBroken file b ⊎ (IsUnbroken file × IsFirstStrictlyBroken file b)
 IsStrictRefusal file refusal.Memory = StrictlyTakesMemory file
-
--- a strict refusal of a file is its first broken strict rule, or that there was no memory, where a
--- scope takes some
-abbrev pub IsStrictBreak : List ℕ → Refusal → Type 0
-IsStrictBreak file (refusal.Broken b) = IsFirstStrictlyBroken file b
-IsStrictBreak file refusal.Memory = (scope : ℕ) × TakesMemoryIn file scope
-
--- a strict refusal of a scope is its first broken strict rule, with its place in the file, or that there
--- was no memory, where it takes some
-abbrev pub IsStrictScopeBreak : List ℕ → ℕ → Refusal → Type 0
-IsStrictScopeBreak file scope (refusal.Broken b) =
-    (found : Break) × IsLeast (IsStrictlyBrokenIn file scope) found
-    × (b.rule ≡ found.rule) × (b.place ≡ scope_start file scope + found.place)
-IsStrictScopeBreak file scope refusal.Memory = TakesMemoryIn file scope

@@ -10,7 +10,7 @@ ghost use Rattle.macho_image.specs.Command.{command_of};
 ghost use Rattle.macho_image.specs.Opened.{IsCommandOf};
 ghost use Rattle.macho_rules.specs.Check.{ContinuesWithMemory};
 ghost use Rattle.macho_strict.specs.Encrypted.{IsEncrypted, encrypted_span};
-ghost use Rattle.macho_strict.specs.FileParts.{IsSurveyOf};
+ghost use Rattle.macho_strict.specs.FileParts.{IsFilePartSurveyOf};
 ghost use Rattle.macho_strict.specs.Passed.{occupied};
 ghost use Rattle.macho_strict.specs.Rules.{BreaksStrictImage};
 ghost use Rattle.macho_strict.specs.Verdict.{file_parts, HasEncrypted};
@@ -33,7 +33,7 @@ pub(crate) fn encrypted_range(
     survey: FilePartSurvey,
     encrypted: bool,
 ) -> Result<(), Refusal>
-    requires survey { IsSurveyOf image.now survey }
+    requires survey { IsFilePartSurveyOf image.now survey }
     requires has { IsTrue encrypted ↔ HasEncrypted image.now }
     requires kept { KeptBelow (BreaksStrictImage image.now) (rank Rule.EncryptedRange) }
     ensures { ContinuesWithMemory (BreaksStrictImage image.now) Rule.EncryptedRange

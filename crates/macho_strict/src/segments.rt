@@ -13,13 +13,11 @@ use crate::by_start::{Passed, occupied_list, pass_sorted};
 use crate::disjoint::Disjoint;
 use crate::gaps::Wanted;
 use crate::overlap::{FileParts, count_of, gaps_between, sorted_file_overlap};
+use macho_fields::header::loader::mach_header_64::SIZEOFCMDS;
 use macho_fields::{Break, Rule, SpanList, SpansByStart};
 use macho_image::{Image, Segment};
 use macho_rules::Refusal;
 use std::alloc::{AllocError, Global};
-
-// `mach_header_64.sizeofcmds`
-pub(crate) const SIZEOFCMDS: u64 = 20;
 
 // A mapped segment has the header and all commands.
 pub(crate) fn header_segment(image: &Image) -> Result<(), Break>
@@ -74,7 +72,7 @@ impl FilePartSurvey {
     ghost use Rattle.macho_image.specs.Opened.{IsOpened};
     ghost use Rattle.macho_rules.specs.Check.{ContinuesWithMemory};
     ghost use Rattle.macho_spans.specs.Overlap.{IsAscending, SharesEarlier};
-    ghost use Rattle.macho_strict.specs.FileParts.{IsSurveyOf};
+    ghost use Rattle.macho_strict.specs.FileParts.{IsFilePartSurveyOf};
     ghost use Rattle.macho_strict.specs.Passed.{ArePassedBy, IsByStart, occupied};
     ghost use Rattle.macho_strict.specs.Rules.{BreaksStrictImage};
     ghost use Rattle.macho_strict.specs.Sharing.{IsFirstSharing, tagged_parts};
@@ -83,7 +81,7 @@ impl FilePartSurvey {
     // Passes the file parts of the image. It needs memory only if they do not ascend: 24 bytes for each,
     // to sort them.
     pub(crate) fn of(alloc: Global, image: &Image) -> Result<FilePartSurvey, AllocError>
-        ensures survey { IfOk result (IsSurveyOf image.now) }
+        ensures survey { IfOk result (IsFilePartSurveyOf image.now) }
         ensures memory { OnErr result (¬ IsAscending (file_parts image.now)) }
     {
         let gaps = gaps_between(image.bytes(), Wanted::NonZero, FileParts::of(image));
@@ -99,7 +97,7 @@ impl FilePartSurvey {
         requires { passed.gaps.by_start ≡ true }
         ensures { (image : List ℕ) → IsOpened image
             → ArePassedBy image (file_parts image) passed.entry.gaps passed.entry.sorted
-            → IsByStart (file_parts image) passed.entry.sorted → IsSurveyOf image result }
+            → IsByStart (file_parts image) passed.entry.sorted → IsFilePartSurveyOf image result }
     {
         FilePartSurvey {
             apart: passed.gaps.ascend(),
@@ -112,7 +110,7 @@ impl FilePartSurvey {
     //
     // It takes memory only if one has: 24 bytes for each, to find the first.
     pub(crate) fn segment_file_overlap(&self, alloc: Global, image: &Image) -> Result<(), Refusal>
-        requires survey { IsSurveyOf image.now self.now }
+        requires survey { IsFilePartSurveyOf image.now self.now }
         requires kept { KeptBelow (BreaksStrictImage image.now) (rank Rule.SegmentFileOverlap) }
         ensures { ContinuesWithMemory (BreaksStrictImage image.now) Rule.SegmentFileOverlap
             (¬ IsAscending (file_parts image.now)) result }
@@ -125,7 +123,7 @@ impl FilePartSurvey {
     // Where the first segment is described that has a byte of the file in common with an earlier one, or
     // `None` if no two have one.
     fn first_overlap(&self, alloc: Global, image: &Image) -> Result<Option<u64>, AllocError>
-        requires { IsSurveyOf image.now self.now }
+        requires { IsFilePartSurveyOf image.now self.now }
         ensures first { IfOk result (IsFirstSharing (tagged_parts image.now)) }
         ensures memory { OnErr result (¬ IsAscending (file_parts image.now)) }
     {
@@ -137,7 +135,7 @@ impl FilePartSurvey {
 
     // The file parts that have bytes. It needs memory only if they were not sorted: 24 bytes for each.
     pub(crate) fn parts(self, alloc: Global, image: &Image) -> Result<Disjoint, AllocError>
-        requires survey { IsSurveyOf image.now self }
+        requires survey { IsFilePartSurveyOf image.now self }
         requires apart { (j : ℕ) → ¬ SharesEarlier (file_parts image.now) j }
         ensures { IfOk result (IsPermutation (occupied (file_parts image.now))) }
     {

@@ -74,8 +74,8 @@ fn nonzero_around_name(image: Bytes, place: u64, start: u64, end: u64) -> Option
     nonzero_within(image, zero + 1, end)
 }
 
-// The least place from `start` up to `end` of a byte that is not zero.
-fn nonzero_within(image: Bytes, start: u64, end: u64) -> Option<u64>
+/// The least place from `start` up to `end` of a byte that is not zero.
+pub fn nonzero_within(image: Bytes, start: u64, end: u64) -> Option<u64>
     requires { start ≤ end }
     ensures { IsLeastPlace (IsNonZeroWithin (bytes_of image.entry) start end) result }
 {

@@ -1,17 +1,16 @@
 //! The strict verdict on a file.
 
-ghost use Rattle.std.specs.Prelude.{◌≡◌, suc, OnOk, IfOk, IfErr};
+ghost use Rattle.std.specs.Prelude.{◌≡◌, OnOk, IfOk, IfErr};
 ghost use Rattle.macho_fields.specs.First.{IsUnbroken};
 ghost use Rattle.macho_fields.specs.Loader.{IsSound};
+ghost use Rattle.macho_rules.specs.Profile.{IsAddedRefusal};
 ghost use Rattle.macho_strict.specs.Accounted.{IsAccounted};
 ghost use Rattle.macho_strict.specs.First.{IsStrictlyBrokenIn, IsStrictlyUnbroken};
-ghost use Rattle.macho_fields.specs.Layers.{NothingBreaks};
-ghost use Rattle.macho_strict.specs.Verdict.{IsStrictRefusal, IsStrictBreak, IsStrictScopeBreak};
+ghost use Rattle.macho_strict.specs.Verdict.{IsStrictRefusal, TakesMemoryIn};
 
-use crate::check::check_image;
+use crate::profile::Strict;
 use crate::stray::fat_stray_byte;
-use macho_fields::Break;
-use macho_rules::{Refusal, Verified, verify};
+use macho_rules::{Refusal, Verified, check_images, verify};
 use std::alloc::Global;
 
 /// Decides the rules of a file as `macho_rules::verify` does, and then the strict rules, in their order:
@@ -43,35 +42,10 @@ pub fn verify_strictly<'a>(alloc: Global, file: &'a [u8]) -> Result<Verified<'a>
 // place of a break is its offset in the file.
 fn check_strictly(alloc: Global, verified: &Verified) -> Result<(), Refusal>
     ensures unbroken { OnOk result (IsStrictlyUnbroken verified.now) }
-    ensures refused { IfErr result (IsStrictBreak verified.now) }
+    ensures refused { IfErr result
+        (IsAddedRefusal (IsStrictlyBrokenIn verified.now) (TakesMemoryIn verified.now) verified.now) }
 {
     fat_stray_byte(alloc, verified)?;
-    for index in 0..verified.slice_count() {
-        check_slice(alloc, verified, index)?;
-    }
+    check_images::<Strict>(alloc, verified)?;
     Ok(())
-}
-
-// Decides the strict rules of the slice with this index, if it has an image. The place of a break is
-// its offset in the file.
-fn check_slice(alloc: Global, verified: &Verified, index: u64) -> Result<(), Refusal>
-    ensures unbroken { OnOk result (NothingBreaks (IsStrictlyBrokenIn verified.now (suc index))) }
-    ensures refused { IfErr result (IsStrictScopeBreak verified.now (suc index)) }
-{
-    let Some(slice) = verified.slice(index) else {
-        return Ok(());
-    };
-    let Some(image) = verified.image(index) else {
-        return Ok(());
-    };
-    match check_image(alloc, &image) {
-        Ok(()) => Ok(()),
-        Err(Refusal::Broken(broken)) => {
-            // The image lies in the file, so its places do too.
-            prove!(verified.bytes().len() <= u64::MAX);
-            let place = slice.span.start + broken.place;
-            Err(Refusal::Broken(Break::at(broken.rule, place)))
-        }
-        Err(Refusal::Memory) => Err(Refusal::Memory),
-    }
 }

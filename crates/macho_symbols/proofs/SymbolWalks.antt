@@ -20,8 +20,8 @@ use Rattle.macho_rules.proofs.SymbolItems.{AreSymbols, symbols_search}
 use Rattle.macho_rules.proofs.Surveys.{walked, walked_on, walked_all, rising_end_by, first_noted}
 use Rattle.macho_rules.proofs.TableItems.{items_break, table_inside}
 use Rattle.macho_rules.proofs.Verdicts.{unbroken_opened}
-use Rattle.macho_symbols.specs.SymbolLimits.{AreLimits, BeginsPast}
-use Rattle.macho_symbols.specs.Symbols.{LacksLibrary, IsAstray, IsEndless, IsLeastOfImage}
+use Rattle.macho_symbols.specs.SymbolLimits.{AreLimits, NamesPast}
+use Rattle.macho_symbols.specs.Symbols.{LacksLibrary, IsAstraySymbol, IsEndless, IsLeastOfImage}
 use Rattle.macho_symbols.specs.declared.symbols.Limits.{Limits}
 use Rattle.macho_symbols.specs.declared.symbols.SymbolSurvey.{SymbolSurvey}
 
@@ -31,8 +31,8 @@ pub record AreNoted (image : List ℕ) (all left : List Symbol) (limits : Limits
   pub seen : List Symbol
   pub reached : all ≡ seen ++ left
   pub library : IsFirstOf (λ s. s.place) (LacksLibrary image) seen survey.library
-  pub value : IsFirstOf (λ s. s.place) (IsAstray image) seen survey.value
-  pub indirect : IsFirstOf (λ s. s.place) (BeginsPast limits.names_end) seen survey.indirect
+  pub value : IsFirstOf (λ s. s.place) (IsAstraySymbol image) seen survey.value
+  pub indirect : IsFirstOf (λ s. s.place) (NamesPast limits.names_end) seen survey.indirect
 
 pub none_noted : (image : List ℕ) (all : List Symbol) (limits : Limits) → AreLimits image limits → AreNoted image all all limits (record { library = None; value = None; indirect = None })
 none_noted image all limits are = record {
@@ -40,14 +40,14 @@ none_noted image all limits are = record {
   seen = [];
   reached = refl;
   library = first_of_none (λ (s : Symbol). s.place) (LacksLibrary image);
-  value = first_of_none (λ (s : Symbol). s.place) (IsAstray image);
-  indirect = first_of_none (λ (s : Symbol). s.place) (BeginsPast limits.names_end);
+  value = first_of_none (λ (s : Symbol). s.place) (IsAstraySymbol image);
+  indirect = first_of_none (λ (s : Symbol). s.place) (NamesPast limits.names_end);
 }
 
 module _ (image : List ℕ) (all : List Symbol) (are : AreSymbols image all) where
   module _ (left rest : List Symbol) (s : Symbol) (is : left ≡ s ∷ rest) (limits after : Limits) (survey new : SymbolSurvey) (noted : AreNoted image all left limits survey) where
     pub noted_more : AreLimits image after → after.names_end ≡ limits.names_end → IsNoted (LacksLibrary image s) s.place survey.library new.library
-        → IsNoted (IsAstray image s) s.place survey.value new.value → IsNoted (BeginsPast limits.names_end s) s.place survey.indirect new.indirect
+        → IsNoted (IsAstraySymbol image s) s.place survey.value new.value → IsNoted (NamesPast limits.names_end s) s.place survey.indirect new.indirect
         → AreNoted image all rest after new
     noted_more still end library value indirect =
         let here = walked all noted.seen left s rest noted.reached is in
@@ -56,9 +56,9 @@ module _ (image : List ℕ) (all : List Symbol) (are : AreSymbols image all) whe
           seen = noted.seen ++ s ∷ [];
           reached = walked_on all noted.seen left s rest noted.reached is;
           library = first_noted (λ (t : Symbol). t.place) (LacksLibrary image) noted.seen s survey.library new.library past library noted.library;
-          value = first_noted (λ (t : Symbol). t.place) (IsAstray image) noted.seen s survey.value new.value past value noted.value;
-          indirect = subst (λ n. IsFirstOf (λ (t : Symbol). t.place) (BeginsPast n) (noted.seen ++ s ∷ []) new.indirect) (sym end)
-              (first_noted (λ (t : Symbol). t.place) (BeginsPast limits.names_end) noted.seen s survey.indirect new.indirect past indirect noted.indirect);
+          value = first_noted (λ (t : Symbol). t.place) (IsAstraySymbol image) noted.seen s survey.value new.value past value noted.value;
+          indirect = subst (λ n. IsFirstOf (λ (t : Symbol). t.place) (NamesPast n) (noted.seen ++ s ∷ []) new.indirect) (sym end)
+              (first_noted (λ (t : Symbol). t.place) (NamesPast limits.names_end) noted.seen s survey.indirect new.indirect past indirect noted.indirect);
         }
 
   module _ (keeps : NothingBreaks (BreaksImage image None)) where
@@ -77,12 +77,12 @@ module _ (image : List ℕ) (all : List Symbol) (are : AreSymbols image all) whe
         let whole = walked_all all noted.seen left noted.reached ended in record {
           library = least (λ symtab p. LacksLibrary image (symbol_at image p)) (LacksLibrary image) (λ c p first. (λ x. x, λ x. x)) survey.library
               (subst (λ these. IsFirstOf (λ (t : Symbol). t.place) (LacksLibrary image) these survey.library) (sym whole) noted.library);
-          value = least (λ symtab p. IsAstray image (symbol_at image p)) (IsAstray image) (λ c p first. (λ x. x, λ x. x)) survey.value
-              (subst (λ these. IsFirstOf (λ (t : Symbol). t.place) (IsAstray image) these survey.value) (sym whole) noted.value);
-          indirect = least (λ symtab p. IsEndless image symtab (symbol_at image p)) (BeginsPast limits.names_end)
+          value = least (λ symtab p. IsAstraySymbol image (symbol_at image p)) (IsAstraySymbol image) (λ c p first. (λ x. x, λ x. x)) survey.value
+              (subst (λ these. IsFirstOf (λ (t : Symbol). t.place) (IsAstraySymbol image) these survey.value) (sym whole) noted.value);
+          indirect = least (λ symtab p. IsEndless image symtab (symbol_at image p)) (NamesPast limits.names_end)
               (λ c p first. let past = noted.kept.names_end c first (symbol_at image p).value in (λ (kind, begins). (kind, past.1 begins), λ (kind, endless). (kind, past.0 endless)))
               survey.indirect
-              (subst (λ these. IsFirstOf (λ (t : Symbol). t.place) (BeginsPast limits.names_end) these survey.indirect) (sym whole) noted.indirect);
+              (subst (λ these. IsFirstOf (λ (t : Symbol). t.place) (NamesPast limits.names_end) these survey.indirect) (sym whole) noted.indirect);
         }
 
 -- an image without symbols breaks no rule of symbols

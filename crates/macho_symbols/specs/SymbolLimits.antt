@@ -19,5 +19,5 @@ pub record AreLimits (image : List ℕ) (limits : Limits) : Type 0 where
   pub names_end : IsNameLimit image limits.names_end
 
 -- it is another name, which begins at the limit or past it
-abbrev pub BeginsPast : ℕ → Symbol → Type 0
-BeginsPast limit symbol = HasType N_INDR symbol × (limit ≤ symbol.value)
+abbrev pub NamesPast : ℕ → Symbol → Type 0
+NamesPast limit symbol = HasType N_INDR symbol × (limit ≤ symbol.value)

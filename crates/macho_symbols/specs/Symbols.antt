@@ -19,8 +19,8 @@ abbrev pub LacksLibrary : List ℕ → Symbol → Type 0
 LacksLibrary image symbol = IsTwoLevel image × NamesNoLibrary (library_count image) symbol
 
 -- a section of a mapped segment defines it, and its value is no address of a mapped segment, and no end of one
-abbrev pub IsAstray : List ℕ → Symbol → Type 0
-IsAstray image symbol =
+abbrev pub IsAstraySymbol : List ℕ → Symbol → Type 0
+IsAstraySymbol image symbol =
     IsSectionType symbol.kind × IsMappedSection image symbol.sect × ¬ IsNearSegment image symbol.value
 
 -- it is another name, and no zero byte ends the one that begins at n_value in the string table
@@ -38,7 +38,7 @@ BreaksSymbolLibrary image place =
 
 abbrev pub BreaksSymbolValue : List ℕ → ℕ → Type 0
 BreaksSymbolValue image place =
-    AtSymbol image (commands_of image) (λ symtab symbol. IsAstray image (symbol_at image symbol)) place
+    AtSymbol image (commands_of image) (λ symtab symbol. IsAstraySymbol image (symbol_at image symbol)) place
 
 abbrev pub BreaksSymbolIndirect : List ℕ → ℕ → Type 0
 BreaksSymbolIndirect image place =

@@ -4,6 +4,7 @@ ghost use Rattle.std.specs.Prelude.{◌↔◌, IsTrue};
 ghost use Rattle.macho_symbols.specs.Header.{IsTwoLevel};
 
 use macho_fields::Order;
+use macho_fields::header::loader::mach_header_64::FLAGS;
 use macho_image::Image;
 
 /// The flag of an image whose undefined symbols each name the library that they are from.
@@ -15,6 +16,3 @@ pub fn is_two_level(image: &Image) -> bool
 {
     image.bytes().read_u32(Order::Little, FLAGS) & MH_TWOLEVEL != 0
 }
-
-// The offset of the flags in `mach_header_64`.
-const FLAGS: u64 = 24;

@@ -28,8 +28,8 @@ impl SymbolSurvey {
     ghost use Rattle.macho_fields.specs.Layers.{NothingBreaks};
     ghost use Rattle.macho_fields.specs.Rules.{BreaksImage as Breaks};
     ghost use Rattle.macho_tables.specs.FileBytes.{HasManySegments};
-    ghost use Rattle.macho_symbols.specs.SymbolLimits.{AreLimits, BeginsPast};
-    ghost use Rattle.macho_symbols.specs.Symbols.{LacksLibrary, IsAstray, IsLeastOfImage, HasSymbols};
+    ghost use Rattle.macho_symbols.specs.SymbolLimits.{AreLimits, NamesPast};
+    ghost use Rattle.macho_symbols.specs.Symbols.{LacksLibrary, IsAstraySymbol, IsLeastOfImage, HasSymbols};
 
     /// Goes over the symbols of an image that breaks no rule of the layout, once. It takes memory only if the
     /// image has symbols, and more than [`FEW_SEGMENTS`] mapped segments.
@@ -60,8 +60,8 @@ impl SymbolSurvey {
         ensures library { (image : List ℕ) → AreLimits image limits.old
             → IsNoted (LacksLibrary image symbol) symbol.place self.old.library self.new.library }
         ensures value { (image : List ℕ) → AreLimits image limits.old
-            → IsNoted (IsAstray image symbol) symbol.place self.old.value self.new.value }
-        ensures indirect { IsNoted (BeginsPast limits.old.names_end symbol) symbol.place
+            → IsNoted (IsAstraySymbol image symbol) symbol.place self.old.value self.new.value }
+        ensures indirect { IsNoted (NamesPast limits.old.names_end symbol) symbol.place
             self.old.indirect self.new.indirect }
         ensures same { (image : List ℕ) → AreLimits image limits.old → AreLimits image limits.new }
         ensures end { limits.new.names_end ≡ limits.old.names_end }
@@ -96,8 +96,8 @@ impl Limits {
     ghost use Rattle.macho_tables.specs.FileBytes.{HasManySegments};
     ghost use Rattle.macho_fields.specs.Symbol.{IsSectionType};
     ghost use Rattle.macho_symbols.specs.Sections.{IsMappedSection};
-    ghost use Rattle.macho_symbols.specs.SymbolLimits.{AreLimits, BeginsPast};
-    ghost use Rattle.macho_symbols.specs.Symbols.{LacksLibrary, IsAstray};
+    ghost use Rattle.macho_symbols.specs.SymbolLimits.{AreLimits, NamesPast};
+    ghost use Rattle.macho_symbols.specs.Symbols.{LacksLibrary, IsAstraySymbol};
 
     // Those of an image that breaks no rule of the layout. They take memory only if it has many mapped segments.
     fn of(alloc: Global, image: &Image) -> Result<Limits, AllocError>
@@ -126,7 +126,7 @@ impl Limits {
     // Whether a section of a mapped segment defines the symbol, and its value is by no mapped segment.
     fn is_astray(&mut self, symbol: Symbol) -> bool
         ensures astray { (image : List ℕ) → AreLimits image self.old
-            → IsTrue result ↔ IsAstray image symbol }
+            → IsTrue result ↔ IsAstraySymbol image symbol }
         ensures same { (image : List ℕ) → AreLimits image self.old → AreLimits image self.new }
         ensures end { self.new.names_end ≡ self.old.names_end }
     {
@@ -143,7 +143,7 @@ impl Limits {
 
     // Whether the symbol is another name, and no zero byte of the strings ends that.
     fn is_endless(&self, symbol: Symbol) -> bool
-        ensures { IsTrue result ↔ BeginsPast self.now.names_end symbol }
+        ensures { IsTrue result ↔ NamesPast self.now.names_end symbol }
     {
         has_type(symbol, N_INDR) && symbol.value >= self.names_end
     }

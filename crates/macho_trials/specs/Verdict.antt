@@ -4,6 +4,6 @@ use Rattle.macho_fields.specs.First.{IsUnbroken, IsFirstBroken}
 use Rattle.macho_fields.specs.declared.rule.Break.{Break}
 
 -- the file breaks no rule, or this is the first broken one with its place
-abbrev pub IsFirst : List ℕ → Option Break → Type 0
-IsFirst file None = IsUnbroken file
-IsFirst file (Some b) = IsFirstBroken file b
+abbrev pub IsFirstOrNone : List ℕ → Option Break → Type 0
+IsFirstOrNone file None = IsUnbroken file
+IsFirstOrNone file (Some b) = IsFirstBroken file b

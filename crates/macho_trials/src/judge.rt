@@ -4,7 +4,7 @@
 //! 8 bytes, in little-endian order. For each file it prints two lines, first the verdict of `verify`.
 
 ghost use Rattle.std.specs.Prelude.{IfOk};
-ghost use Rattle.macho_trials.specs.Verdict.{IsFirst};
+ghost use Rattle.macho_trials.specs.Verdict.{IsFirstOrNone};
 
 use macho_fields::{Break, Bytes, Order};
 use macho_report::FromRead;
@@ -43,7 +43,7 @@ fn take_number(input: &[u8]) -> Option<(u64, &[u8])> {
 
 /// The first broken rule of the file as `verify` reports it.
 fn first_broken(alloc: Global, file: &[u8]) -> Result<Option<Break>, AllocError>
-    ensures { IfOk result (IsFirst file.now) }
+    ensures { IfOk result (IsFirstOrNone file.now) }
 {
     match verify(alloc, file) {
         Ok(_) => Ok(None),

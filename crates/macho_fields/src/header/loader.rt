@@ -22,6 +22,8 @@ pub const SEGMENT_COMMAND_64_SIZE: u64 = 72;
 pub const LINKEDIT_DATA_COMMAND_SIZE: u64 = 16;
 /// The size in bytes of `section_64`.
 pub const SECTION_64_SIZE: u64 = 80;
+/// The size in bytes of `segname` and of `sectname`.
+pub const SHORT_NAME_SIZE: u64 = 16;
 /// The size in bytes of `build_tool_version`, of which records follow `build_version_command`.
 pub const BUILD_TOOL_VERSION_SIZE: u64 = 8;
 /// The size in bytes of `dylib_table_of_contents`, an entry of the table of contents.
@@ -233,16 +235,98 @@ pub mod note_command {
     pub const SIZE_OFFSET: u64 = 32;
 }
 
-/// The offsets of two 32-bit fields of `segment_command_64`.
+/// The offsets of 32-bit fields of `mach_header_64`.
+pub mod mach_header_64 {
+    /// The processor.
+    pub const CPUTYPE: u64 = 4;
+    /// What it is able to do beside, and in the high byte capabilities.
+    pub const CPUSUBTYPE: u64 = 8;
+    /// The kind of the image.
+    pub const FILETYPE: u64 = 12;
+    /// The number of load commands.
+    pub const NCMDS: u64 = 16;
+    /// The size of all load commands.
+    pub const SIZEOFCMDS: u64 = 20;
+    /// The flags of the image.
+    pub const FLAGS: u64 = 24;
+}
+
+/// The offset of a 32-bit field of `load_command`.
+pub mod load_command {
+    /// The size of the command.
+    pub const CMDSIZE: u64 = 4;
+}
+
+/// The offsets of 32-bit fields of `dylib_command`.
+pub mod dylib_command {
+    /// The version of the library.
+    pub const CURRENT_VERSION: u64 = 16;
+    /// The earliest version that it stands in for.
+    pub const COMPATIBILITY_VERSION: u64 = 20;
+}
+
+/// The offsets of 64-bit fields of `entry_point_command`.
+pub mod entry_point_command {
+    /// Where the program begins, from the base of the image.
+    pub const ENTRYOFF: u64 = 8;
+    /// The size of the first stack, or 0.
+    pub const STACKSIZE: u64 = 16;
+}
+
+/// The offsets of fields of `segment_command_64`: addresses, sizes and offsets have 64 bits, the others 32.
 pub mod segment_command_64 {
+    /// The name of the segment, of 16 bytes.
+    pub const SEGNAME: u64 = 8;
+    /// The address of the segment in memory.
+    pub const VMADDR: u64 = 24;
+    /// Its size in memory.
+    pub const VMSIZE: u64 = 32;
+    /// Where its bytes begin in the image.
+    pub const FILEOFF: u64 = 40;
+    /// How many bytes it has in the image.
+    pub const FILESIZE: u64 = 48;
+    /// What its memory may ever allow.
+    pub const MAXPROT: u64 = 56;
+    /// What its memory allows at first.
+    pub const INITPROT: u64 = 60;
     /// The number of sections.
     pub const NSECTS: u64 = 64;
     /// The flags of the segment.
     pub const FLAGS: u64 = 68;
 }
 
-/// The offset of a 32-bit field of `build_version_command`.
+/// The offsets of fields of `section_64`: the address and the size have 64 bits, the others 32.
+pub mod section_64 {
+    /// The name of the section, of 16 bytes.
+    pub const SECTNAME: u64 = 0;
+    /// The address of the section in memory.
+    pub const ADDR: u64 = 32;
+    /// Its size.
+    pub const SIZE: u64 = 40;
+    /// Where its bytes begin in the image.
+    pub const OFFSET: u64 = 48;
+    /// The power of 2 of which its address is a multiple.
+    pub const ALIGN: u64 = 52;
+    /// Where its relocations begin in the image.
+    pub const RELOFF: u64 = 56;
+    /// The number of its relocations.
+    pub const NRELOC: u64 = 60;
+    /// Its type and its attributes.
+    pub const FLAGS: u64 = 64;
+    /// What it means depends on the type.
+    pub const RESERVED1: u64 = 68;
+    /// What it means depends on the type.
+    pub const RESERVED2: u64 = 72;
+}
+
+/// The offsets of 32-bit fields of `build_version_command`.
 pub mod build_version_command {
+    /// The platform.
+    pub const PLATFORM: u64 = 8;
+    /// The least version of the platform.
+    pub const MINOS: u64 = 12;
+    /// The version of the SDK.
+    pub const SDK: u64 = 16;
     /// The number of tools.
     pub const NTOOLS: u64 = 20;
 }

@@ -4,7 +4,7 @@ use Rattle.macho_fields.specs.Bytes.{bytes_of}
 use Rattle.macho_fields.specs.Image.{commands_of}
 use Rattle.macho_fields.specs.Segment.{section_count}
 use Rattle.macho_rows.specs.Image.{image_in}
-use Rattle.macho_rows.specs.SymbolIndex.{symbols_seen, BeginsPast, IsLast, IsFound, no_symbol}
+use Rattle.macho_rows.specs.SymbolIndex.{symbols_seen, BeginsPast, IsLastSymbol, IsFound, no_symbol}
 use Rattle.macho_c.proofs.NearestSymbol.{finds}
 use Rattle.macho_rows.proofs.ShownSymbols.{seen_few, shown_are, shown_seen}
 use Rattle.macho_c.proofs.symbol_index.kesvuot_find_symbol.Goals as goal
@@ -13,7 +13,7 @@ pub returns-in-Some-clause-answer : goal.returns-in-Some-clause-answer
 returns-in-Some-clause-answer c =
     let image = image_in c.args.file.now c.args.image.now in
     let same = shown_are image (bytes_of c.of-table.result.bytes) c.args.image.now c.of-table.result.image.now c.indexed.result c.indexed.ensures c.of-table.ensures.bytes c.of-table.ensures.image in
-    inl (refl, c.in-Some.found, subst (λ (symbols : List Symbol). IsLast symbols c.args.index.now c.args.address c.in-Some.last c.in-Some.found) same c.in-Some.ensures, c.row_of.ensures)
+    inl (refl, c.in-Some.found, subst (λ (symbols : List Symbol). IsLastSymbol symbols c.args.index.now c.args.address c.in-Some.last c.in-Some.found) same c.in-Some.ensures, c.row_of.ensures)
 
 pub returns-in-Some-clause-all : goal.returns-in-Some-clause-all
 returns-in-Some-clause-all c = λ shows is.

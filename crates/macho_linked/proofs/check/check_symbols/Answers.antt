@@ -1,6 +1,6 @@
 use Rattle.std.proofs.Common.{inl, inr}
 use Rattle.macho_fields.specs.declared.rule.Rule.TheVariants as rule
-use Rattle.macho_strict.proofs.Judged.{without_memory, refused}
+use Rattle.macho_rules.proofs.Refusals.{without_memory, refused}
 use Rattle.macho_linked.specs.Rules.{BreaksImage}
 use Rattle.macho_linked.specs.Verdict.{TakesMemory}
 use Rattle.macho_linked.proofs.check.check_symbols.Goals as goal

@@ -1,12 +1,16 @@
-use Rattle.std.proofs.Common.{sym, lit≤}
+use Rattle.std.proofs.Common.{None, sym, lit≤}
+use Rattle.macho_fields.specs.Rules.{BreaksImage}
 use Rattle.macho_fields.specs.declared.rule.Rule.TheVariants as rule
 use Rattle.macho_rules.proofs.Judged.{keeps_opened, judged_broken, judged_kept}
-use Rattle.macho_rules.proofs.Overlapping.{none_overlapping, least_overlapping, overlapping_index, without_memory}
+use Rattle.macho_rules.proofs.Overlapping.{none_overlapping, least_overlapping, overlapping_index, unordered_takes}
+use Rattle.macho_rules.proofs.Refusals.{without_memory}
+use Rattle.macho_rules.specs.Verdict.{ImageTakesMemory}
 use Rattle.macho_rules.proofs.segments.sorted_overlap.Goals as goal
 
 pub returns-in_err-spans : goal.returns-in_err-spans
 returns-in_err-spans c =
-    without_memory c.args.image.now c.requires.kept c.requires.unordered c.from_residual.result c.from_residual.ensures.1
+    let image = c.args.image.now in
+    without_memory (BreaksImage image None) rule.SegmentOverlap (ImageTakesMemory image None) (unordered_takes image c.requires.kept c.requires.unordered) c.from_residual.result c.from_residual.ensures.1
 
 pub returns-in_default : goal.returns-in_default
 returns-in_default c =

@@ -27,8 +27,8 @@ loop-index-init c =
     let end : c.args.start + c.index_end.result ≡ c.args.start + least_offset signature 0 = ap (λ n. c.args.start + n) index in
     record { end = end; none = subst (NoneBefore image c.args.start signature) (sym end) (none_in_index image c.args.start signature) }
 
-pub first_nonzero-slack-requires : goal.first_nonzero-slack-requires
-first_nonzero-slack-requires c =
+pub nonzero_within-slack-requires : goal.nonzero_within-slack-requires
+nonzero_within-slack-requires c =
     let signature = bytes_of c.args.signature in
     let k = c.loop-index.index in
     let less = counted signature c.superblob_of-superblob.result k c.superblob_of-superblob.ensures c.loop-index-test.true in
@@ -45,8 +45,8 @@ returns-then-is_some c =
     let less = counted signature c.superblob_of-superblob.result k c.superblob_of-superblob.ensures c.loop-index-test.true in
     let offset : c.from.result ≡ (blob_at signature k).offset = c.from.ensures ∙ ap (λ (b : Blob). b.offset) c.blob_at-blob.ensures.blob in
     let none = subst (NoneBefore image start signature) c.loop-index.invariant.end c.loop-index.invariant.none in
-    let found = gap image signature start k c.loop-index.end (start + c.from.result) c.from.result c.first_nonzero-slack.result c.loop-index.invariant.end refl offset c.first_nonzero-slack.ensures in
-    gap_slack image start signature c.requires.blobs k (omega (arith, less)) none less c.first_nonzero-slack.result (sym c.if-is_some.ensures) found
+    let found = gap image signature start k c.loop-index.end (start + c.from.result) c.from.result c.nonzero_within-slack.result c.loop-index.invariant.end refl offset c.nonzero_within-slack.ensures in
+    gap_slack image start signature c.requires.blobs k (omega (arith, less)) none less c.nonzero_within-slack.result (sym c.if-is_some.ensures) found
 
 pub loop-index-preserved : goal.loop-index-preserved
 loop-index-preserved c =
@@ -57,16 +57,16 @@ loop-index-preserved c =
     let less = counted signature c.superblob_of-superblob.result k c.superblob_of-superblob.ensures c.loop-index-test.true in
     let offset : c.from.result ≡ (blob_at signature k).offset = c.from.ensures ∙ ap (λ (b : Blob). b.offset) c.blob_at-blob.ensures.blob in
     let none = subst (NoneBefore image start signature) c.loop-index.invariant.end c.loop-index.invariant.none in
-    let found = gap image signature start k c.loop-index.end (start + c.from.result) c.from.result c.first_nonzero-slack.result c.loop-index.invariant.end refl offset c.first_nonzero-slack.ensures in
+    let found = gap image signature start k c.loop-index.end (start + c.from.result) c.from.result c.nonzero_within-slack.result c.loop-index.invariant.end refl offset c.nonzero_within-slack.ensures in
     let end : start + c.end.result ≡ start + blob_end (blob_at signature k) = ap (λ n. start + n) (c.end.ensures ∙ ap blob_end c.blob_at-blob.ensures.blob) in
     record {
       end = end ∙ ap (λ n. start + n) (sym (least_next signature k));
       none = subst (NoneBefore image start signature) (sym end)
-          (none_past_blob image start signature c.requires.blobs k (omega (arith, less)) none less c.first_nonzero-slack.result (sym c.if-is_some.ensures) found);
+          (none_past_blob image start signature c.requires.blobs k (omega (arith, less)) none less c.nonzero_within-slack.result (sym c.if-is_some.ensures) found);
     }
 
-pub first_nonzero-requires : goal.first_nonzero-requires
-first_nonzero-requires c =
+pub nonzero_within-requires : goal.nonzero_within-requires
+nonzero_within-requires c =
     let signature = bytes_of c.args.signature in
     let k = c.loop-index.index in
     let count : k ≡ blob_count signature = (let all : k ≡ c.superblob_of-superblob.result.count = omega (arith, c.loop-index-test.false, c.loop-index.auto.index-end) in all ∙ ap (λ (s : Superblob). s.count) c.superblob_of-superblob.ensures) in
@@ -82,6 +82,6 @@ returns c =
     let count : k ≡ blob_count signature = (let all : k ≡ c.superblob_of-superblob.result.count = omega (arith, c.loop-index-test.false, c.loop-index.auto.index-end) in all ∙ ap (λ (s : Superblob). s.count) c.superblob_of-superblob.ensures) in
     let end : c.loop-index.end ≡ start + least_offset signature (blob_count signature) = c.loop-index.invariant.end ∙ ap (λ n. start + least_offset signature n) count in
     let none = subst (NoneBefore image start signature) end c.loop-index.invariant.none in
-    let from = subst (λ n. IsLeastPlace (IsNonZeroWithin image n c.len-2.result) c.first_nonzero.result) end c.first_nonzero.ensures in
-    last_slack image start signature c.requires.blobs none c.first_nonzero.result
-    (subst (λ n. IsLeastPlace (IsNonZeroWithin image (start + least_offset signature (blob_count signature)) n) c.first_nonzero.result) c.len-2.ensures.count from)
+    let from = subst (λ n. IsLeastPlace (IsNonZeroWithin image n c.len-2.result) c.nonzero_within.result) end c.nonzero_within.ensures in
+    last_slack image start signature c.requires.blobs none c.nonzero_within.result
+    (subst (λ n. IsLeastPlace (IsNonZeroWithin image (start + least_offset signature (blob_count signature)) n) c.nonzero_within.result) c.len-2.ensures.count from)

@@ -7,7 +7,8 @@ use Rattle.macho_spans.specs.Overlap.{IsAscending}
 use Rattle.macho_strict.specs.Rules.{BreaksStrictImage}
 use Rattle.macho_strict.specs.Verdict.{file_parts, element_spans, HasEncrypted, HasLooseNop}
 use Rattle.macho_strict.proofs.Surveyed.{least_stray}
-use Rattle.macho_strict.proofs.Verdicts.{passed_of, all_unbroken}
+use Rattle.macho_strict.proofs.Ranks.{all_unbroken}
+use Rattle.macho_strict.proofs.Verdicts.{passed_of}
 use Rattle.macho_strict.proofs.check.check_image.Goals as goal
 
 pub returns-in_err-survey-clause-refused : goal.returns-in_err-survey-clause-refused

@@ -4,7 +4,7 @@ use Rattle.macho_fields.specs.declared.rule.Rule.TheVariants as rule
 use Rattle.macho_fields.proofs.FirstPlaces.{first_judged}
 use Rattle.macho_strict.specs.Rules.{BreaksStrictImage}
 use Rattle.macho_strict.specs.Verdict.{HasEncrypted}
-use Rattle.macho_strict.proofs.Judged.{refused}
+use Rattle.macho_rules.proofs.Refusals.{refused}
 use Rattle.macho_strict.proofs.Surveyed.{parts_apart}
 use Rattle.macho_strict.proofs.encrypted.encrypted_range.Goals as goal
 

@@ -9,7 +9,7 @@ use Rattle.macho_strict.specs.Rules.{BreaksStrictFile}
 use Rattle.macho_strict.specs.Verdict.{slice_spans}
 use Rattle.macho_fields.specs.declared.rule.Rule.TheVariants as rule
 use Rattle.macho_fields.proofs.FirstPlaces.{first_judged}
-use Rattle.macho_strict.proofs.Judged.{without_memory, refused}
+use Rattle.macho_rules.proofs.Refusals.{without_memory, refused}
 use Rattle.macho_strict.proofs.Ranks.{none_before_file}
 use Rattle.macho_strict.proofs.SliceSpans.{least_of_file, ascend_after_table}
 use Rattle.macho_strict.proofs.stray.fat_stray_byte.Goals as goal

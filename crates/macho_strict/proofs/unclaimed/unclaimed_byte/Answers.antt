@@ -4,7 +4,7 @@ use Rattle.macho_fields.specs.declared.rule.Rule.TheVariants as rule
 use Rattle.macho_fields.proofs.FirstPlaces.{first_judged}
 use Rattle.macho_strict.specs.Rules.{BreaksStrictImage}
 use Rattle.macho_strict.specs.Verdict.{HasLooseNop}
-use Rattle.macho_strict.proofs.Judged.{without_memory, refused}
+use Rattle.macho_rules.proofs.Refusals.{without_memory, refused}
 use Rattle.macho_strict.proofs.unclaimed.unclaimed_byte.Goals as goal
 
 pub returns-in_err-unclaimed : goal.returns-in_err-unclaimed

@@ -1,9 +1,9 @@
 use Rattle.std.proofs.Common.{List, ℕ, subst}
 use Rattle.macho_rules.proofs.Verdicts.{passed_on}
 use Rattle.macho_strict.specs.First.{IsStrictlyUnbroken}
-use Rattle.macho_strict.specs.Verdict.{IsStrictRefusal, IsStrictBreak}
+use Rattle.macho_strict.specs.Verdict.{IsStrictRefusal}
 use Rattle.macho_strict.proofs.Accounted.{unbroken_is_accounted}
-use Rattle.macho_strict.proofs.Verdicts.{layout_refused, strictly_refused}
+use Rattle.macho_strict.proofs.Verdicts.{IsStrictBreak, layout_refused, strictly_refused}
 use Rattle.macho_strict.proofs.verdict.verify_strictly.Goals as goal
 
 pub returns-in_err-verified-clause-refused : goal.returns-in_err-verified-clause-refused

@@ -5,7 +5,7 @@ use Rattle.macho_fields.proofs.FirstPlaces.{first_judged}
 use Rattle.macho_spans.specs.Overlap.{IsAscending}
 use Rattle.macho_strict.specs.Rules.{BreaksStrictImage}
 use Rattle.macho_strict.specs.Verdict.{file_parts}
-use Rattle.macho_strict.proofs.Judged.{without_memory, refused}
+use Rattle.macho_rules.proofs.Refusals.{without_memory, refused}
 use Rattle.macho_strict.proofs.Surveyed.{least_overlap}
 use Rattle.macho_strict.proofs.segments.FilePartSurvey.segment_file_overlap.Goals as goal
 

@@ -1,7 +1,7 @@
 use Rattle.std.proofs.Common.{◌∙◌}
 use Rattle.macho_image.specs.Symbol.{symbol_at}
 use Rattle.macho_symbols.proofs.SymbolWalks.{none_noted, noted_more, all_noted, no_symbols}
-use Rattle.macho_symbols.specs.Symbols.{LacksLibrary, IsAstray, IsEndless}
+use Rattle.macho_symbols.specs.Symbols.{LacksLibrary, IsAstraySymbol, IsEndless}
 use Rattle.macho_symbols.proofs.symbols.SymbolSurvey.of.Goals as goal
 
 pub loop-symbol-init : goal.loop-symbol-init
@@ -24,7 +24,7 @@ returns-then-symbol_count-eq0-clause-least c =
     let image = c.args.image.now in
     let none = no_symbols image c.requires c.symbol_count.result c.symbol_count.ensures c.if-symbol_count-eq0.true in record {
       library = none (λ symtab symbol. LacksLibrary image (symbol_at image symbol));
-      value = none (λ symtab symbol. IsAstray image (symbol_at image symbol));
+      value = none (λ symtab symbol. IsAstraySymbol image (symbol_at image symbol));
       indirect = none (λ symtab symbol. IsEndless image symtab (symbol_at image symbol));
     }
 
