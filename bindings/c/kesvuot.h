@@ -203,8 +203,8 @@ uint32_t kesvuot_verify_linked(const void *file, size_t size, struct kesvuot_ver
 /* Judges a file as kesvuot_verify_linked does, and then by the rules of the sealed profile: each image has a code
  * signature; the hashes in each of its code directories are those of all bytes before the signature, and of the blobs
  * in special slots; and from the signature on, each byte that is not zero is in its header, its index or a blob.
- * SEALED.md says what that means, and what it does not: nobody is named who signed, and nothing outside of the file is
- * read.
+ * SEALED.md says what that means, and what it does not: it does not say who signed, and nothing outside of the file
+ * is read.
  * Every file that is OK here is also OK for kesvuot_verify_linked.
  * Memory can run out wherever it can for kesvuot_verify_linked, and nowhere else. The bytes before the signature are
  * hashed for each code directory; an image has six at most. */
@@ -253,7 +253,7 @@ static inline const char *kesvuot_platform_name(uint32_t platform) {
 
 /* Why a file is refused */
 
-/* The index of nothing. */
+/* No index. */
 #define KESVUOT_NO_INDEX UINT32_MAX
 
 /* What a part of a file is, and what its index counts: `kind` of struct kesvuot_part. An index is KESVUOT_NO_INDEX if
@@ -327,7 +327,7 @@ struct kesvuot_explanation {
 
 /* Explains a refusal: what is at the place of the verdict, which parts conflict there, and which numbers. Pass the
  * bytes that were judged, by whichever call. LIBRARY.md of the source has a table of what each rule gives.
- * A number of 2^64 or more is given as 2^64 - 1. An index that there is not is KESVUOT_NO_INDEX.
+ * A number of 2^64 or more is given as 2^64 - 1. A missing index is KESVUOT_NO_INDEX.
  * OK: all fields are written. NONE: no rule has the number `rule`, or nothing that the rule is about is at `place`, as
  * after OK. All indices are then KESVUOT_NO_INDEX, and all other fields 0.
  * The call does not judge the file again. It takes no memory, and time in proportion to the headers and to the table
@@ -395,7 +395,7 @@ struct kesvuot_image {
     uint64_t indirects;        /* HAS_DYSYMTAB: indirectsymoff of LC_DYSYMTAB. Any number if indirect_count is 0 */
     uint64_t indirect_count;   /* nindirectsyms: the table lies in the slice */
     uint64_t command_count;    /* how many rows kesvuot_read_commands writes in all */
-    uint64_t segment_count;    /* the same of kesvuot_read_segments */
+    uint64_t segment_count;    /* how many kesvuot_read_segments writes */
     uint64_t section_count;    /* of kesvuot_read_sections */
     uint64_t library_count;    /* of kesvuot_read_libraries */
     uint64_t build_count;      /* of kesvuot_read_builds */
@@ -472,7 +472,7 @@ struct kesvuot_section {         /* section_64 */
 };
 
 struct kesvuot_build { /* build_version_command or version_min_command. An image can have several */
-    uint32_t platform; /* any number. Of a version_min_command PLATFORM_MACOS (1), PLATFORM_IOS (2), PLATFORM_TVOS (3)
+    uint32_t platform; /* any number. For a version_min_command PLATFORM_MACOS (1), PLATFORM_IOS (2), PLATFORM_TVOS (3)
                           or PLATFORM_WATCHOS (4), by its cmd: dyld takes the last three in an x86_64 image as those of
                           the simulator */
     uint32_t minos;    /* x << 16 | y << 8 | z. Any number */
@@ -536,8 +536,8 @@ struct kesvuot_code_directory {         /* CS_CodeDirectory */
     struct kesvuot_span team;           /* the same. Only versions from 0x20200 on have one */
     struct kesvuot_span hashes;         /* those of the code, one for each page; empty if they pass the blob */
     struct kesvuot_span special_hashes; /* that of special slot 1 is the last; empty if they pass the blob */
-    uint64_t limit;                     /* codeLimit64, or codeLimit if that is 0 or not there: so many bytes of the
-                                           slice are hashed, from its start on */
+    uint64_t limit;                     /* codeLimit64, or codeLimit if that is 0 or not there: how many bytes of
+                                           the slice are hashed, from its start on */
     uint32_t version;                   /* 0x20000 or more */
     uint32_t flags;                     /* CS_ADHOC (2) and others */
     uint32_t code_slots;                /* how many hashes there are */
@@ -674,7 +674,7 @@ uint32_t kesvuot_find_symbol(const void *file, size_t size, const struct kesvuot
  * be defined in the image: look at its type.
  * OK: the symbol, and in `number` its index in the table.
  * NONE: there is no such symbol. All fields are 0, but `section`, which is KESVUOT_NO_SECTION.
- * A symbol with strx 0 has no name, not an empty one. The call goes over all symbols, and compares at most
+ * A symbol with strx 0 has no name, not an empty one. The call reads all symbols, and compares at most
  * name_size + 1 bytes of each: for many names, read the symbols once. */
 uint32_t kesvuot_find_name(const void *file, size_t size, const struct kesvuot_image *image, const void *name,
                            size_t name_size, struct kesvuot_symbol *symbol, uint64_t *number);
@@ -703,17 +703,17 @@ struct kesvuot_export {       /* an export. Only kesvuot_verify_linked judges it
  * NONE: the image exports no such name, or has no trie. Also if a node on the way does not end in the trie, if a number
  * or the name of the export does not end in its part of the node, or if the nodes on the way, each counted as often as
  * it is met, have more bytes than the trie. All fields are 0.
- * The call goes over the load commands, and then over the nodes on the way. It takes no memory. */
+ * The call reads the load commands, and then the nodes on the way. It takes no memory. */
 uint32_t kesvuot_find_export(const void *file, size_t size, const struct kesvuot_image *image, const void *name,
                              size_t name_size, struct kesvuot_export *found);
 
 /* Where the export trie of an image lies in the file, as the linked profile finds it: the data of the first
  * LC_DYLD_EXPORTS_TRIE. If there is none, or its datasize is 0, it is the export_size bytes from export_off on of the
  * first LC_DYLD_INFO_ONLY, or without that of the first LC_DYLD_INFO.
- * OK: the bytes of the trie, of which there are some.
+ * OK: the bytes of the trie, at least one byte.
  * NONE: the image has no trie. In a file that was not accepted, also if the trie ends past the slice, or the headers
  * break a rule. The span is empty.
- * The call goes over the load commands. */
+ * The call reads the load commands. */
 uint32_t kesvuot_find_export_trie(const void *file, size_t size, const struct kesvuot_image *image,
                                   struct kesvuot_span *trie);
 
@@ -737,12 +737,12 @@ struct kesvuot_export_node {       /* a node of an export trie. Only kesvuot_ver
 };
 
 struct kesvuot_export_edge {    /* an edge of a node */
-    struct kesvuot_span label;  /* what leads along it of a name, without the zero byte that follows. It can be empty */
+    struct kesvuot_span label;  /* the part of a name that the edge adds, without its zero byte. It can be empty */
     uint64_t child;             /* the offset of its node in the trie. Any number */
 };
 
 /* The node at an offset of an export trie. Addresses count from `base` of the image.
- * OK: the node, up to its edges. Of the image no other field is read.
+ * OK: the node, up to its edges. No other field of the image is read.
  * NONE: no such node begins there, because a number of it does not end in the trie, or its edges would begin past it.
  * All fields are 0.
  * The call takes no more than the time to read the numbers and the name of the node, and no memory. */
@@ -941,7 +941,7 @@ uint32_t kesvuot_find_address(const void *file, size_t size, const struct kesvuo
 #define KESVUOT_EXPORT_SYMBOL_FLAGS_STUB_AND_RESOLVER 0x10
 #define KESVUOT_EXPORT_SYMBOL_FLAGS_STATIC_RESOLVER 0x20
 
-/* Of a code signature: slots of code directories, and types of hashes. (kern/cs_blobs.h) */
+/* Code signatures: slots of code directories, and types of hashes. (kern/cs_blobs.h) */
 #define KESVUOT_CSSLOT_CODEDIRECTORY 0x0
 #define KESVUOT_CSSLOT_ALTERNATE_CODEDIRECTORIES 0x1000
 #define KESVUOT_CS_HASHTYPE_SHA1 1

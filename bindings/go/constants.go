@@ -122,7 +122,7 @@ const (
 	EXPORT_SYMBOL_FLAGS_STUB_AND_RESOLVER = 0x10
 	EXPORT_SYMBOL_FLAGS_STATIC_RESOLVER   = 0x20
 
-	// Of a code signature: slots of code directories, and types of hashes. (kern/cs_blobs.h)
+	// Code signatures: slots of code directories, and types of hashes. (kern/cs_blobs.h)
 	CSSLOT_CODEDIRECTORY             = 0x0
 	CSSLOT_ALTERNATE_CODEDIRECTORIES = 0x1000
 	CS_HASHTYPE_SHA1                 = 1

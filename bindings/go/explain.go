@@ -46,7 +46,7 @@ const (
 	CodeHash        PartKind = 38
 )
 
-// NoIndex is the index of nothing.
+// NoIndex says that there is no index.
 const NoIndex = 1<<32 - 1
 
 // A Part is a structure, or what a structure describes. It lies where the file says, which can be past the file.

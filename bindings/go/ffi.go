@@ -285,7 +285,7 @@ func readRows[Row any](image *Image, table table, cursor *cursor, count uint64) 
 	return rows[:written]
 }
 
-// readTable returns all rows of a table, of which there are so many.
+// readTable returns all rows of a table, of which there are count.
 func readTable[Row any](image *Image, table table, count C.uint64_t) []Row {
 	return readRows[Row](image, table, new(cursor), uint64(count))
 }

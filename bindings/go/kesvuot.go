@@ -76,7 +76,7 @@ func VerifyLinked(file []byte) (*File, error) {
 // VerifySealed judges a file by the rules of the sealed profile too, after those of VerifyLinked: each image has a code
 // signature; the hashes in each of its code directories are those of all bytes before the signature, and of the blobs
 // in special slots; and from the signature on, each byte that is not zero is in its header, its index or a blob.
-// SEALED.md says what that means, and what it does not: nobody is named who signed, and nothing outside of the file is
+// SEALED.md says what that means, and what it does not: it does not say who signed, and nothing outside of the file is
 // read. Whatever is accepted here is accepted by VerifyLinked. The error is a *Refused, or ErrMemory.
 func VerifySealed(file []byte) (*File, error) {
 	return judge(file, sealed)
@@ -163,8 +163,8 @@ func (file *File) Images() []*Image {
 	return images
 }
 
-// Layout returns the layout of the file as text, as macho-check prints it. Each call judges the file anew. The error is
-// ErrMemory, or a *Refused if the bytes have changed.
+// Layout returns the layout of the file as text, as macho-check prints it. Each call judges the file again. The error
+// is ErrMemory, or a *Refused if the bytes have changed.
 func (file *File) Layout() (string, error) {
 	return readLayout(file.bytes)
 }

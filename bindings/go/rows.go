@@ -135,7 +135,7 @@ type Command struct {
 	Cmd   uint32
 }
 
-// Commands returns all load commands. Of a command that RULES.md does not list, all fields past cmdsize are unchecked.
+// Commands returns all load commands. In a command that RULES.md does not list, all fields past cmdsize are unchecked.
 func (image *Image) Commands() []Command {
 	rows := readTable[commandRow](image, commandTable, image.numbers.command_count)
 	commands := make([]Command, len(rows))
@@ -189,7 +189,7 @@ type DataInCode struct {
 	Kind uint16
 }
 
-// An uncounted goes over rows of a table whose length nothing says. It reads them in batches.
+// An uncounted iterates over rows of a table whose length nothing says. It reads them in batches.
 type uncounted[Raw any] struct {
 	image  *Image
 	table  table
@@ -211,7 +211,7 @@ func (rows *uncounted[Raw]) next() (row *Raw, ok bool) {
 	return row, true
 }
 
-// FunctionStarts goes over the addresses of functions, before any slide. It reads them in batches.
+// FunctionStarts iterates over the addresses of functions, before any slide. It reads them in batches.
 //
 //	for starts := image.FunctionStarts(); starts.Next(); {
 //		address := starts.Address()
@@ -221,7 +221,7 @@ type FunctionStarts struct {
 	address uint64
 }
 
-// FunctionStarts goes over the functions, by the first LC_FUNCTION_STARTS. Each is at a lower address than the next one.
+// FunctionStarts iterates over the functions, by the first LC_FUNCTION_STARTS. Their addresses ascend.
 // They end before a number 0 of its data, a number that does not end in it, and an address of 2^64 or more. There are
 // none if the image has no base. In a file that VerifyLinked accepts each is the address of a byte of the file. In any
 // other one can be in no segment.
@@ -269,7 +269,7 @@ type Symbol struct {
 	Section int
 }
 
-// Symbols goes over symbols, in the order of the table. It reads them in batches.
+// Symbols iterates over symbols, in the order of the table. It reads them in batches.
 //
 //	for symbols := image.Symbols(); symbols.Next(); {
 //		symbol, name := symbols.Symbol(), symbols.Name()
@@ -289,7 +289,7 @@ type Symbols struct {
 // How many symbols are read at once.
 const batch = 256
 
-// Symbols goes over all symbols.
+// Symbols iterates over all symbols.
 func (image *Image) Symbols() *Symbols {
 	return image.symbols(0, uint64(image.numbers.symbol_count))
 }
@@ -300,16 +300,16 @@ func (image *Image) Symbols() *Symbols {
 // 4 * Strsize.
 func (image *Image) Name(symbol Symbol) []byte { return readName(image, symbol.Strx) }
 
-// LocalSymbols goes over the local symbols of LC_DYSYMTAB, none without it.
+// LocalSymbols iterates over the local symbols of LC_DYSYMTAB, none without it.
 func (image *Image) LocalSymbols() *Symbols { return image.group(0) }
 
-// DefinedSymbols goes over the defined external symbols of LC_DYSYMTAB.
+// DefinedSymbols iterates over the defined external symbols of LC_DYSYMTAB.
 func (image *Image) DefinedSymbols() *Symbols { return image.group(2) }
 
-// UndefinedSymbols goes over the undefined symbols of LC_DYSYMTAB.
+// UndefinedSymbols iterates over the undefined symbols of LC_DYSYMTAB.
 func (image *Image) UndefinedSymbols() *Symbols { return image.group(4) }
 
-// group goes over the group whose first index is here in the groups, and its count after it.
+// group iterates over the group whose first index is here in the groups, and its count after it.
 func (image *Image) group(at int) *Symbols {
 	first, count := uint64(image.numbers.groups[at]), uint64(image.numbers.groups[at+1])
 	return image.symbols(first, count)
@@ -382,7 +382,7 @@ func (image *Image) SymbolAt(address uint64) (symbol Symbol, ok bool) {
 }
 
 // SymbolNamed returns the first symbol in the table with this name that is no debugging entry. It need not be defined
-// in the image. It is not ok if there is none. Each call goes over all symbols: for many names, read Symbols once.
+// in the image. It is not ok if there is none. Each call reads all symbols: for many names, read Symbols once.
 func (image *Image) SymbolNamed(name string) (symbol Symbol, ok bool) {
 	row, ok := findName(image, name)
 	if !ok {

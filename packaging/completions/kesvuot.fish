@@ -14,8 +14,8 @@ complete -c kesvuot -n "__fish_seen_subcommand_from $commands" -l profile -x -a 
 
 complete -c kesvuot -n '__fish_seen_subcommand_from check' -l format -x -a 'text json jsonl sarif junit github' \
     -d 'How to print what is found'
-complete -c kesvuot -n '__fish_seen_subcommand_from check' -l include -x -d 'Of folders, judge only such names'
-complete -c kesvuot -n '__fish_seen_subcommand_from check' -l exclude -x -d 'Of folders, leave out such names'
+complete -c kesvuot -n '__fish_seen_subcommand_from check' -l include -x -d 'In folders, judge only such names'
+complete -c kesvuot -n '__fish_seen_subcommand_from check' -l exclude -x -d 'In folders, leave out such names'
 complete -c kesvuot -n '__fish_seen_subcommand_from check' -l skip-other-kinds -d 'Skip refused files of another kind'
 complete -c kesvuot -n '__fish_seen_subcommand_from check' -l jobs -x -d 'How many processes judge'
 complete -c kesvuot -n '__fish_seen_subcommand_from check' -l mmap -d 'Map files to which nobody else can write'

@@ -231,7 +231,7 @@ static void try_layouts(void) {
     try_no_layout(library.bytes, library.size - 1);
 }
 
-// A rule that there is not, places at which nothing is, and the end of a file that is cut off.
+// A number that no rule has, places at which nothing is, and the end of a file that is cut off.
 static void try_explanations(void) {
     const size_t cut = library.size - 1;
     struct kesvuot_verdict verdict;
@@ -620,7 +620,7 @@ static void try_function_starts(void) {
     for (size_t each = 1; each <= STARTS + 2; each++) {
         try_starts(CODE, &image, each, STARTS);
     }
-    // What is read of so many bytes of the data: no number that does not end in it.
+    // What is read of this many bytes of the data: no number that does not end in it.
     static const struct {
         uint32_t size;
         size_t wanted;
@@ -738,7 +738,7 @@ static void try_blobs(void) {
     CHECK(count_blobs(11, 4) == 0 && count_blobs(11, 2) == 2);
 }
 
-// What is read of the directory where the blob has so many bytes.
+// What is read of the directory where the blob has this many bytes.
 static struct kesvuot_code_directory directory_of(uint64_t size, uint32_t wanted) {
     const struct kesvuot_blob blob = {{48 + 36, size}, 0, 0};
     struct kesvuot_code_directory directory;
@@ -768,7 +768,7 @@ static void try_code_directories(void) {
     CHECK(memcmp(&found, &none, sizeof none) == 0);
 }
 
-// What is read of the hash of the directory, with this type of hashes, where the blob has so many bytes.
+// What is read of the hash of the directory, with this type of hashes, where the blob has this many bytes.
 static struct kesvuot_cdhash cdhash_of(uint8_t hash_type, uint64_t size, uint32_t wanted) {
     uint8_t bytes[SIGNED_SIZE];
     const struct kesvuot_blob blob = {{48 + 36, size}, 0, 0};

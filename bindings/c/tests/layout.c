@@ -193,7 +193,7 @@ struct text {
     size_t len;
 };
 
-// The layout of the file, which has so many slices.
+// The layout of the file, which has this many slices.
 static struct text text_of(uint64_t slices) {
     struct text text = {NULL, 0};
     FILE *out = open_memstream(&text.bytes, &text.len);

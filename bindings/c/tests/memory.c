@@ -59,7 +59,7 @@ static uint64_t images_of(struct file file) {
     return images;
 }
 
-// Refuses each allocation of the call. At most so many may be refused without a change of the verdict.
+// Refuses each allocation of the call. At most this many may be refused without a change of the verdict.
 static void try_verdict(judge *verify, struct file file, uint64_t spared) {
     struct kesvuot_verdict verdict, wanted;
     static const struct kesvuot_verdict none;

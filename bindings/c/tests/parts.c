@@ -66,7 +66,7 @@ static uint64_t start_of(const struct kesvuot_command *command) {
     return command->bytes.offset - image.slice.offset;
 }
 
-// The place of the command with this cmd that so many others with it come before.
+// The place of the command with this cmd that this many others with it come before.
 static uint64_t place_of(uint32_t cmd, size_t before) {
     for (size_t index = 0; index < command_count; index++) {
         if (commands[index].cmd == cmd && before-- == 0) {

@@ -48,7 +48,7 @@ const uint8_t *bytes_at(const struct file *file, struct kesvuot_span span);
 
 void print_name(const struct file *file, struct kesvuot_span name);
 
-// A call on an image, by its name without `kesvuot_`. Of a table it asks for the first 16 rows, and returns how many
+// A call on an image, by its name without `kesvuot_`. For a table it asks for the first 16 rows, and returns how many
 // there are. `symbol_name` asks for the names of these symbols, and returns how many have one. `read_names` asks for
 // all of them at once, and returns how many it gets. `find_data` asks for the data of LC_FUNCTION_STARTS, `find_table`
 // for the strings, `find_address` for the bytes at the base, and `find_name` and `find_export` for a name that no symbol

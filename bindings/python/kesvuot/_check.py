@@ -122,7 +122,7 @@ def _scan(folder: str, choice: Choice) -> Names:
 
 
 def _matches(entry: Any, pattern: str) -> bool:
-    """A pattern with a slash is one of the whole path, and any other of the name."""
+    """A pattern with a slash must match the whole path, and any other the name."""
     return fnmatchcase(entry.path if "/" in pattern else entry.name, pattern)
 
 

@@ -34,7 +34,7 @@ WIDTH = 80
 SHOWN_OF_COMMAND, SHOWN_BEFORE, SHOWN_AFTER = 128, 16, 32
 MEMORY = frozenset(("segment-memory", "section-memory"))
 
-# Of what is not judged so many names are shown.
+# How many names of what is not judged are shown.
 MOST_NAMES = 20
 # The tables whose contents each profile judges in part, and those whose contents the linked profile judges.
 JUDGED_TABLES = {"symbols", "strings", "indirect symbols"}
@@ -155,7 +155,7 @@ def _texts(outcome: Outcome, told: Optional[Told]) -> Iterator[str]:
 
 
 def lines_to_look(outcome: Outcome, told: Optional[Told]) -> List[str]:
-    """The lines of a shell, for this file and place. Of a slice llvm-objdump is told the architecture."""
+    """The lines of a shell, for this file and place. For a slice llvm-objdump gets the architecture."""
     path = outcome.path if not outcome.path.startswith("-") else f"./{outcome.path}"
     lines = [line.replace("PLACE", f"{outcome.place:#x}") for line in RULES[outcome.rule].lines]
     if told and told.case.arch in ARCHITECTURES.values():

@@ -283,7 +283,7 @@ class Image(Slice):
 
     def symbol_named(self, name: Union[Data, str]) -> Optional[Symbol]:
         """The first symbol in the table with this name, of bytes or of a text in UTF-8, that is no debugging entry. It
-        need not be defined in the image. None if there is none. Each call goes over all symbols: for many names, read
+        need not be defined in the image. None if there is none. Each call reads all symbols: for many names, read
         `symbols` once."""
         wanted = _bytes_of(name)
         symbol = ctypes.create_string_buffer(_rows.SYMBOLS.form.size)
@@ -380,7 +380,7 @@ class Image(Slice):
     def rebases(self) -> Iterator[Rebase]:
         """The pointers to which a dynamic loader adds the slide: the slots of the rebase opcodes of LC_DYLD_INFO or
         LC_DYLD_INFO_ONLY, in their order. Those of chained fixups are not among them. Each call follows the opcodes
-        anew, as far as the iterator is asked. It raises OpcodeError at an opcode that cannot be followed: then
+        again, as far as the iterator is asked. It raises OpcodeError at an opcode that cannot be followed: then
         `verify_linked` refuses the file."""
         return _opcodes.rebases(self._data, self)
 
@@ -439,8 +439,8 @@ class File:
         return place
 
     def layout(self) -> str:
-        """The text that `macho-check` prints of the file. Each call judges the file anew. MemoryError means that memory
-        ran out."""
+        """The text that `macho-check` prints of the file. Each call judges the file again. MemoryError means that
+        memory ran out."""
         text, needed = ctypes.create_string_buffer(LAYOUT_ROOM), ctypes.c_size_t()
         self._write_layout(text, needed)
         while needed.value > len(text):
@@ -499,7 +499,7 @@ def verify_sealed(data: Data) -> File:
     """Judges a file by the rules of the linked profile, and then by those of docs/SEALED.md: each image has a code
     signature; the hashes in each of its code directories are those of all bytes before the signature, and of the blobs
     in special slots; and from the signature on, each byte that is not zero is in its header, its index or a blob.
-    Nobody is named who signed, and nothing outside of the file is read. Raises what `verify` raises."""
+    It does not say who signed, and nothing outside of the file is read. Raises what `verify` raises."""
     return _judge(data, load().kesvuot_verify_sealed)
 
 

@@ -45,7 +45,7 @@ class Mapped(NamedTuple):
 
 
 def map_file(path: str, profile: str, target: str) -> int:
-    """Writes the map of a file, and returns the status. Of a file without a verdict there is none."""
+    """Writes the map of a file, and returns the status. For a file without a verdict there is none."""
     if _is_same(path, target):
         say(f"{shown(target)}: the map would replace the file")
         return Outcome(path, NO_VERDICT).status

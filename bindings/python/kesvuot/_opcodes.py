@@ -47,7 +47,7 @@ SEGMENTS = 16
 
 
 class OpcodeError(ValueError):
-    """An opcode cannot be followed: `reason` says why, and `place` is its offset in the file. Of a second command with
+    """An opcode cannot be followed: `reason` says why, and `place` is its offset in the file. For a second command with
     opcodes it is that of the command. `verify_linked` refuses all files with such opcodes."""
 
     def __init__(self, reason: str, place: int) -> None:

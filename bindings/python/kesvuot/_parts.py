@@ -1,5 +1,5 @@
-"""The parts of a file that its headers describe, and the bytes that none of them has. Of a refused file they are as far
-as its headers can be followed: nothing is trusted, and each read stays in the file."""
+"""The parts of a file that its headers describe, and the bytes that none of them has. For a refused file they are as
+far as its headers can be followed: nothing is trusted, and each read stays in the file."""
 
 from __future__ import annotations
 

@@ -7,7 +7,7 @@ import sys
 import time
 
 BAR_WIDTH = 30
-# The line is written anew at most so often.
+# The line is rewritten at most once in this time.
 SECONDS_BETWEEN = 0.1
 
 
@@ -36,7 +36,7 @@ class Progress:
         self.drawn_at = self.began
 
     def show(self, files: int, size: int) -> None:
-        """Draws the bar, unless it was drawn just now. `files` are done, and have so many bytes."""
+        """Draws the bar, unless it was drawn just now. `files` are done, and have this many bytes."""
         now = time.monotonic()
         if self.is_wanted and (now - self.drawn_at >= SECONDS_BETWEEN or files == self.total):
             self.drawn_at = now

@@ -33,7 +33,7 @@ class NotMachO(Exception):
 
 
 def read_given(path: str, maps: bool = False) -> Contents:
-    """The bytes of a file that the user has named; `-` is standard input. Of a file that is refused by its first bytes
+    """The bytes of a file that the user has named; `-` is standard input. For a file that is refused by its first bytes
     they may be no more than these. A regular file that has to be read whole is mapped if `maps`, but standard input is
     read. Raises OSError, MemoryError or Unread."""
     if path == "-":

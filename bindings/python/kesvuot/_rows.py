@@ -194,7 +194,7 @@ class CodeDirectory(NamedTuple):
     `identifier`, `team`: without the zero byte past them, empty if there is none
     `hashes`: those of the code, one for each page, each of `hash_size` bytes; empty if they pass the blob
     `special_hashes`: each of `hash_size` bytes, that of the special slot 1 last; empty if they pass the blob
-    `limit`: so many bytes of the image are hashed, from its start on: codeLimit64, or codeLimit if that is 0 or not
+    `limit`: how many bytes of the image are hashed, from its start on: codeLimit64, or codeLimit if that is 0 or not
     there
     `version`, `flags`: 0x20000 or more; CS_ADHOC (2) and others
     `code_slots`, `special_slots`: how many hashes, and how many special ones there are
@@ -407,7 +407,7 @@ class Reader:
 
 
 class NamedReader(Reader):
-    """Reads symbols with their names, of an image whose strings have so many bytes."""
+    """Reads symbols with their names, of an image whose strings have this many bytes."""
 
     def __init__(self, data: Bytes, image: Any, strings_size: int) -> None:
         super().__init__(data, image, SYMBOLS)

@@ -310,7 +310,7 @@ def _opcode(it: Teller) -> Story:
 def _slot(it: Teller) -> Story:
     numbers = "end of the last pointer in the segment", "writable bytes of the segment"
     if not it.second:
-        return it.story(f"{it.at} writes to a segment that is not set, or that there is not.", *numbers)
+        return it.story(f"{it.at} writes to a segment that is not set, or that does not exist.", *numbers)
     if not it.segment_number("vmsize") or not it.segment_number("initprot") & WRITE:
         return it.story(f"{it.at} writes to {it.second}, which cannot be written: "
                         f"{protection_text(it.segment_number('initprot'))}.", *numbers)

@@ -90,7 +90,7 @@ def size_of(structure: str) -> int:
 
 
 def structure_of(cmd: int, size: int) -> str:
-    """The structure of a command of so many bytes: that of its kind, if it has as many."""
+    """The structure of a command of this many bytes: that of its kind, if it has as many."""
     name = LISTED.get(cmd) or UNLISTED.get(cmd, "load_command")
     return name if size_of(name) <= size else "load_command"
 

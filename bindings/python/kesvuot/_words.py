@@ -200,18 +200,18 @@ def _add_command(commands: Any, name: str, run: Any, summary: str, description: 
 
 def _add_check(commands: Any) -> None:
     parser = _add_command(commands, "check", check, "judge files and folders", """\
-Judges the layout of Mach-O files, and prints a line for each, and how many there are of each kind. Of a folder it
+Judges the layout of Mach-O files, and prints a line for each, and how many there are of each kind. In a folder it
 judges those files that begin with a magic number of Mach-O, and follows no links.""")
     parser.add_argument("paths", nargs="+", metavar="PATH", help="a file, a folder, or - for standard input")
     parser.add_argument("--format", choices=("text", *REPORTS), default="text", help="how to print what is found: text "
                         "(the default), json, jsonl, sarif, junit or github")
     parser.add_argument("--include", action="append", default=[], metavar="PATTERN",
-                        help="of folders, judge only files with such a name")
+                        help="in folders, judge only files with such a name")
     parser.add_argument("--exclude", action="append", default=[], metavar="PATTERN",
-                        help="of folders, leave out files and folders with such a name; a pattern with a slash is one "
-                        "of the whole path")
+                        help="in folders, leave out files and folders with such a name; a pattern with a slash must "
+                        "match the whole path")
     parser.add_argument("--skip-other-kinds", action="store_true",
-                        help="skip the refused files that are of another kind, such as object files")
+                        help="skip the refused files that say they are of another kind, such as object files")
     parser.add_argument("--jobs", type=_positive, default=len(os.sched_getaffinity(0)), metavar="N",
                         help="how many processes judge (one for each processor)")
     parser.add_argument("--mmap", action="store_true", help="map files instead of reading them. ONLY FOR FILES THAT "
@@ -241,31 +241,31 @@ def _map(words: argparse.Namespace) -> int:
 
 def _add_explain(commands: Any) -> None:
     parser = _add_command(commands, "explain", _explain, "say why a file is refused", """\
-Says of a refused file which parts of it are in conflict, and shows the numbers and the bytes, what usually breaks the
-rule, and what to do. Of an accepted file it says what was not judged.""")
+Says which parts of a refused file are in conflict, and shows the numbers and the bytes, what usually breaks the
+rule, and what to do. For an accepted file it says what was not judged.""")
     parser.add_argument("--json", action="store_true", help="print an object with all of that")
     parser.add_argument("file", metavar="FILE", help="a file, or - for standard input")
 
 
 def _add_show(commands: Any) -> None:
     parser = _add_command(commands, "show", _show, "show the layout of a file", """\
-Shows the layout of an accepted file: its slices, and of each 64-bit image its platform, segments, sections and
-libraries, and the cdhash of each code directory. Of a refused file it prints the rule.""")
+Shows the layout of an accepted file: its slices, and for each 64-bit image its platform, segments, sections and
+libraries, and the cdhash of each code directory. For a refused file it prints the rule.""")
     parser.add_argument("--json", action="store_true", help="print an object with all fields and load commands")
     parser.add_argument("file", metavar="FILE", help="a file, or - for standard input")
 
 
 def _add_diff(commands: Any) -> None:
     parser = _add_command(commands, "diff", _diff, "compare the layouts of two files", """\
-Prints what of the layouts of two accepted files differs, slice by slice: lines with - are of the first file, and lines
-with + of the second one.""")
+Prints how the layouts of two accepted files differ, slice by slice: lines with - are of the first file, and lines with
++ of the second one.""")
     parser.add_argument("one", metavar="FILE", help="a file, or - for standard input")
     parser.add_argument("other", metavar="FILE")
 
 
 def _add_map(commands: Any) -> None:
     parser = _add_command(commands, "map", _map, "draw a file and its address space", """\
-Writes a page of HTML that shows the parts of a file to scale, beside the address space. It needs no network. Of a
+Writes a page of HTML that shows the parts of a file to scale, beside the address space. It needs no network. For a
 refused file it shows where the rule is broken, and the parts as far as the headers can be followed.""")
     parser.add_argument("-o", "--output", default=STANDARD_OUTPUT, metavar="PAGE",
                         help="the file to write, such as map.html; otherwise standard output")

@@ -122,7 +122,7 @@ pub const EXPORT_SYMBOL_FLAGS_REEXPORT: u64 = 0x8;
 pub const EXPORT_SYMBOL_FLAGS_STUB_AND_RESOLVER: u64 = 0x10;
 pub const EXPORT_SYMBOL_FLAGS_STATIC_RESOLVER: u64 = 0x20;
 
-// Of a code signature: slots of code directories, and types of hashes. (kern/cs_blobs.h)
+// Code signatures: slots of code directories, and types of hashes. (kern/cs_blobs.h)
 pub const CSSLOT_CODEDIRECTORY: u32 = 0x0;
 pub const CSSLOT_ALTERNATE_CODEDIRECTORIES: u32 = 0x1000;
 pub const CS_HASHTYPE_SHA1: u8 = 1;

@@ -455,7 +455,7 @@ fn name_by(call: impl FnOnce(&mut Text) -> u32) -> Option<&'static str> {
     if call(&mut name) != OK {
         return None;
     }
-    // SAFETY: with this status, it is a constant of the library, of so many bytes.
+    // SAFETY: with this status, it is a constant of the library, of this many bytes.
     let bytes = unsafe { slice::from_raw_parts(name.at, name.size) };
     str::from_utf8(bytes).ok()
 }
@@ -700,8 +700,7 @@ pub fn read_cdhash(bytes: &[u8]) -> (u32, CdHash) {
     (status, cdhash)
 }
 
-/// The relocations from this place on, of which there are so many. There are fewer if they do not all lie
-/// in the image.
+/// The relocations from this place on, `nreloc` of them, or fewer if they do not all lie in the image.
 pub fn relocations(file: &[u8], image: &Image, reloff: u32, nreloc: u32) -> Vec<Relocation> {
     // No file has more.
     let most = cmp::min(nreloc as usize, file.len() / 8);

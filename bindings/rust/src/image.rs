@@ -366,7 +366,7 @@ impl<'a> Image<'a> {
     /// The first symbol in the table with this name, and its index. It is no debugging entry
     /// (`N_STAB`), and need not be defined in the image. `None` if there is none.
     ///
-    /// The call goes over all symbols, and compares at most one byte more of each than the name has.
+    /// The call reads all symbols, and compares at most one byte more of each than the name has.
     ///
     /// ```
     /// # let path = concat!(env!("CARGO_MANIFEST_DIR"), "/../../tests/real/program");

@@ -130,7 +130,7 @@ pub fn verify_linked(file: &[u8]) -> Result<Verified<'_>, Error> {
 /// Judges a file by the rules of the sealed profile too, after those of [`verify_linked`]: each image has a
 /// code signature; the hashes in each of its code directories are those of all bytes before the signature, and
 /// of the blobs in special slots; and from the signature on, each byte that is not 0 is in its header, its
-/// index or a blob. `docs/SEALED.md` says what that means, and what it does not: nobody is named who signed, and
+/// index or a blob. `docs/SEALED.md` says what that means, and what it does not: it does not say who signed, and
 /// nothing outside of the file is read. Whatever is accepted here is accepted by [`verify_linked`].
 ///
 /// ```

@@ -200,7 +200,7 @@ impl<'a> Row<'a> for Library<'a> {
 #[derive(Clone, Copy, Debug, PartialEq, Eq)]
 #[non_exhaustive]
 pub struct Build {
-    /// The platform, such as `PLATFORM_MACOS`. Of an `LC_VERSION_MIN_IPHONEOS`, `LC_VERSION_MIN_TVOS` or
+    /// The platform, such as `PLATFORM_MACOS`. For an `LC_VERSION_MIN_IPHONEOS`, `LC_VERSION_MIN_TVOS` or
     /// `LC_VERSION_MIN_WATCHOS` it is that of the device, also in an image for its simulator.
     pub platform: u32,
     /// The least version X.Y.Z of the platform: X << 16 | Y << 8 | Z.
@@ -418,7 +418,7 @@ tables! {
 
 /// A load command. (`load_command`)
 ///
-/// Of a command that `docs/RULES.md` does not list, all fields past `cmdsize` are unchecked.
+/// In a command that `docs/RULES.md` does not list, all fields past `cmdsize` are unchecked.
 #[derive(Clone, Copy, PartialEq, Eq)]
 #[non_exhaustive]
 pub struct Command<'a> {

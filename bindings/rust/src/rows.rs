@@ -252,7 +252,7 @@ mod tests {
         assert_eq!(calls_for(100..356), [(100, 256)]);
     }
 
-    /// The row after so many, and the one after it.
+    /// The row after this many, and the one after it.
     fn skip<'a, T: Row<'a>>(range: Range<u64>, n: usize) -> (Option<u64>, Option<u64>) {
         let mut rows = rows::<T>(range);
         (rows.nth(n).map(|row| row.0), rows.next().map(|row| row.0))

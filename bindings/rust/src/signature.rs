@@ -73,7 +73,7 @@ pub struct CodeDirectory<'a> {
     /// The special hashes, each of `hash_size` bytes. That of the special slot 1 is the last. Empty if they
     /// pass the blob.
     pub special_hashes: &'a [u8],
-    /// So many bytes of the image are hashed, from its start on: `codeLimit64`, or `codeLimit` if that is 0 or
+    /// How many bytes of the image are hashed, from its start on: `codeLimit64`, or `codeLimit` if that is 0 or
     /// not there.
     pub limit: u64,
     /// 0x20000 or more.

@@ -43,7 +43,7 @@ impl<'a> Verified<'a> {
     }
 
     /// The layout of the file as text, as `macho-check` prints it: a line for each slice, with those
-    /// of its parts. Each call judges the file anew.
+    /// of its parts. Each call judges the file again.
     ///
     /// # Errors
     ///
@@ -228,7 +228,7 @@ impl fmt::Debug for VerifiedBuf {
 /// A slice of an accepted file.
 #[derive(Clone, Copy)]
 pub struct Slice<'a> {
-    /// Of a slice that is not read, only its bytes and its architecture are known.
+    /// For a slice that is not read, only its bytes and its architecture are known.
     image: Image<'a>,
     is_read: bool,
 }

@@ -2,13 +2,13 @@
 
 use kesvuot::{Image, Rows, Symbol, Verified};
 
-/// An executable of a header, `LC_SYMTAB`, and so many symbols without names, whose values count
+/// An executable of a header, `LC_SYMTAB`, and this many symbols without names, whose values count
 /// from 0.
 fn with_symbols(count: u32) -> Vec<u8> {
     with_strings(count, 0)
 }
 
-/// The same with strings of so many zero bytes after the symbols. Each symbol has an empty name there, but
+/// The same with strings of this many zero bytes after the symbols. Each symbol has an empty name there, but
 /// every third has none.
 fn with_strings(count: u32, strsize: u32) -> Vec<u8> {
     let header = [0xfeed_facf, 0x0100_0007, 3, 2, 1, 24, 0, 0];

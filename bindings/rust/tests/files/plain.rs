@@ -328,7 +328,7 @@ fn nearest(symbols: &[(u64, Symbol)], address: u64) -> Option<(u64, Symbol)> {
         .copied()
 }
 
-/// The symbols by address and by name, each of which goes over all symbols here. So only some are looked
+/// The symbols by address and by name, each of which reads all symbols here. So only some are looked
 /// up.
 fn compare_lookups(image: &Image) {
     let all: Vec<_> = (0..).zip(image.symbols()).collect();

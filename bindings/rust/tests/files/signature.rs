@@ -21,7 +21,7 @@ const FIELDS_SIZES: [(u32, usize); 7] = [
 /// The bytes of a hash by `CS_HASHTYPE_SHA1`, `.._SHA256`, `.._SHA256_TRUNCATED` and `.._SHA384`.
 const HASH_SIZES: [usize; 4] = [20, 32, 20, 48];
 
-/// The number of so many bytes at an offset.
+/// The number of this many bytes at an offset.
 fn number(bytes: &[u8], at: usize, size: usize) -> u64 {
     let digits = &bytes[at..at + size];
     digits

@@ -5,8 +5,8 @@ use kesvuot::Image;
 const LC_THREAD: u32 = 0x4;
 const LC_UNIXTHREAD: u32 = 0x5;
 const VM_PROT_EXECUTE: u32 = 4;
-/// Of a state with registers: the `cputype` and the flavor, its count, and where the address of the next instruction is
-/// among its words of 4 bytes.
+/// For a state with registers: the `cputype` and the flavor, its count, and where the address of the next instruction
+/// is among its words of 4 bytes.
 const REGISTERS: [([u32; 2], usize, usize); 3] = [
     ([0x0100_0007, 4], 42, 32),
     ([0x0100_0007, 7], 44, 34),
