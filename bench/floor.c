@@ -232,7 +232,7 @@ struct linker_option_command {
     uint32_t cmd, cmdsize, count;
 };
 
-// The states of a thread: each has so many words after these fields. The flavors and counts are those of
+// The states of a thread: each has `count` words after these fields. The flavors and counts are those of
 // mach/i386/thread_status.h and mach/arm/thread_status.h.
 struct thread_state {
     uint32_t flavor, count;
@@ -627,7 +627,7 @@ static uint64_t least_shared(const struct span *sorted, size_t count) {
     return least;
 }
 
-// Room for so many spans, and as many to sort them.
+// Room for `count` spans, and as many to sort them.
 static struct span *room_for(uint64_t count) {
     struct span *spans = calloc(count, 2 * sizeof *spans);
     if (spans == NULL) {
@@ -1459,7 +1459,7 @@ struct gathered {
     struct span *spans;
 };
 
-// There are no more than so many.
+// There are no more than `count`.
 static void begin_gathered(struct gathered *gathered, uint64_t count) {
     gathered->spans = count == 0 ? NULL : room_for(count);
     begin_order(&gathered->order);
@@ -1757,7 +1757,7 @@ static void judge_fat_stray_byte(const struct file *file, const struct universal
     free(parts.spans);
 }
 
-// Of a universal file, up to the first slice that breaks one of the rules.
+// In a universal file, up to the first slice that breaks one of the rules.
 static void judge_universal_strictly(const struct file *file, const struct universal *universal,
                                      struct breaks *breaks) {
     struct image image;
@@ -2150,7 +2150,7 @@ static inline struct step follow_bind(struct stream *stream, uint8_t byte, uint6
     }
 }
 
-// Whether all slots of a step with some are in a room of so many bytes. A skip that is above it is that of one slot.
+// Whether all slots of a step with some are in a room of `room` bytes. A skip that is above it is that of one slot.
 static inline bool fit_slots(const struct step *step, uint64_t cursor, uint64_t room) {
     if (room < POINTER_SIZE || cursor > room - POINTER_SIZE) {
         return false;
@@ -2212,7 +2212,7 @@ static void judge_rebases(struct stream *stream, uint64_t start) {
     }
 }
 
-// DONE of a lazy stream begins it anew.
+// DONE of a lazy stream begins it again.
 static inline struct step follow_done(struct stream *stream, bool is_lazy) {
     if (is_lazy) {
         clear(stream);
@@ -2383,7 +2383,7 @@ static void judge_pages(const struct chains *chains, const uint8_t *starts, cons
     }
 }
 
-// The starts of so many segments, and the pages of each up to the first broken starts. The array begins at an offset of
+// The starts of `count` segments, and the pages of each up to the first broken starts. The array begins at an offset of
 // the table.
 static void judge_starts(const struct chains *chains, uint64_t array, uint64_t count) {
     const struct image *image = chains->linked->image;
@@ -2530,7 +2530,7 @@ struct open_node {
     uint64_t edge, edges_left;
 };
 
-// An export trie. `bytes` is at what is read next. The nodes met have so many bytes. The open nodes are those from the
+// An export trie. `bytes` is at what is read next. The nodes met have `met` bytes. The open nodes are those from the
 // root down to the one whose children are met.
 struct trie {
     const struct linked *linked;
@@ -2601,7 +2601,7 @@ static inline bool are_known_flags(uint64_t flags) {
         (flags & (EXPORT_SYMBOL_FLAGS_REEXPORT | EXPORT_SYMBOL_FLAGS_STUB_AND_RESOLVER)) != 0x18;
 }
 
-// export-terminal, of a terminal part of so many bytes, with the rules of what it says.
+// export-terminal, of a terminal part of `size` bytes, with the rules of what it says.
 static void judge_terminal(struct trie *trie, uint64_t size, uint64_t place) {
     struct stream terminal = {.bytes = trie->bytes.bytes + trie->bytes.at, .size = size};
     uint64_t flags;
@@ -3332,7 +3332,7 @@ static void judge_image_linked(const struct image *image) {
     judge_contents(image);
 }
 
-// Of a universal file, up to the first slice that breaks one of the rules.
+// In a universal file, up to the first slice that breaks one of the rules.
 static void judge_universal_linked(const struct file *file, const struct universal *universal,
                                    struct breaks *breaks) {
     struct image image;
@@ -3365,7 +3365,7 @@ static void flush_output(void) {
     output_used = 0;
 }
 
-// Makes room for so many bytes, which all that is put has to have.
+// Makes room for `size` bytes, which all that is put has to have.
 static inline void make_room(size_t size) {
     if (OUTPUT_SIZE - output_used < size) {
         flush_output();
@@ -3417,7 +3417,7 @@ static void put_version(uint64_t version) {
     put_decimal(version & 0xff);
 }
 
-// A name in double quotes, of any length, with room for a line after it. Of each 64 bytes there may be four times as
+// A name in double quotes, of any length, with room for a line after it. For each 64 bytes there may be four times as
 // many, which are no more than a line.
 static void put_name(const uint8_t *name, size_t size) {
     PUT("\"");
@@ -3678,7 +3678,7 @@ static void check_image(const struct file *file, struct breaks *breaks, enum pro
     }
 }
 
-// The same of a universal file.
+// Checks a universal file.
 static void check_universal(const struct file *file, struct breaks *breaks, enum profile profile) {
     struct universal universal;
     if (breaks_fat_truncated(file, &universal)) {

@@ -7,7 +7,7 @@
     bench/images.py --vectors FILE FOLDER   makes FOLDER/1, FOLDER/2 and so on, the files of the vectors of FILE, and
                                             prints a line for each: its number, the verdict and the name, with tabs
     bench/images.py --reports FILE FOLDER   the same of reports, with the layout of each in FOLDER/N.layout
-    bench/images.py --random COUNT KIND     prints so many vectors with random ranges: of `segments` or of `slices`; or,
+    bench/images.py --random COUNT KIND     prints COUNT vectors with random ranges: of `segments` or of `slices`; or,
                                             for the strict profile, of `parts`, the bytes of segments, or of `elements`
 
 Vectors and words are explained in crates/macho_trials/data/README.md, reports in tests/reports.txt. bench/speed and the
@@ -36,7 +36,7 @@ whose LC_MAIN names an address of no segment. That breaks the last rule, so all 
                                     N sections of 16 bytes in one segment, by their bytes in the file, and a last byte
                                     of it in none. That breaks the last rule of the strict profile, as it does below
     gaps-N, gaps-N-nops             the same, ascending, with 16 zeros or NOPs after each section, but for a last byte
-    gaps-N-shuffled                 the same with NOPs, of N segments in no order, each with one section
+    gaps-N-shuffled                 the same with NOPs, of N unordered segments, each with one section
     parts-N                         N segments of 16 bytes each, by their bytes in the file, and a last byte in none. That
                                     breaks a rule of the strict profile that the survey of segments decides
     encrypted-N-ascending, -descending, -shuffled
@@ -68,12 +68,12 @@ whose LC_MAIN names an address of no segment. That breaks the last rule, so all 
     pointers-Nm                     chained fixups with a pointer in each N bytes of N MiB of zeros, in chains of 16 KiB.
                                     Each fourth one binds one of 10,000 imports
     starts-N                        N functions, of 16 bytes each
-    starts-N-shuffled               N segments of 16 bytes in no order, each with a function
-    dice-N                          N entries of data in code, in no order, each of 8 of the 16 bytes of a function
-    dice-N-shuffled                 N executable segments of 16 bytes in no order, each with an entry, in another order
+    starts-N-shuffled               N unordered segments of 16 bytes, each with a function
+    dice-N                          N unordered entries of data in code, each of 8 of the 16 bytes of a function
+    dice-N-shuffled                 N unordered executable segments of 16 bytes, each with an entry, in another order
     exports-N                       an export trie with N exports, a power of ten, whose names are numbers. Each digit
                                     has a node, and each 16 bytes of a text an export
-    exports-N-shuffled              N segments of 16 bytes in no order, each with an export
+    exports-N-shuffled              N unordered segments of 16 bytes, each with an export
     trie-Nm                         an export trie of N MiB, a power of two, without exports. Its nodes have two
                                     edges or none
     trie-N-deep                     an export trie of N nodes, each below the one before, and an export
@@ -91,7 +91,7 @@ whose LC_MAIN names an address of no segment. That breaks the last rule, so all 
     specials-Nm                     a code signature of N MiB: six code directories with a SHA-256 of one page, and as many
                                     blobs of 8 bytes of slot 1 as there is room for
     undefined-N                     N undefined symbols of an image with two levels of names, each with a name of its own
-    values-N-shuffled               N segments in no order, and a symbol at the start of each, in another order
+    values-N-shuffled               N unordered segments, and a symbol at the start of each, in another order
     aliases-Nm                      a million symbols that are other names of what stands in one string of N MiB
     relocations-N                   N relocations that an LC_DYSYMTAB names, of symbols and of none
     options-N                       an LC_LINKER_OPTION with N strings
@@ -338,7 +338,7 @@ def with_symbols(out: BinaryIO, text_size: int, strx: Iterable[int], count: int,
 
 
 def numbered_names(count: int) -> bytes:
-    """A zero byte and so many names of 16 bytes."""
+    """A zero byte and `count` names of 16 bytes."""
     return b"".join([b"\0"] + [b"_symbol_%07d\0" % k for k in range(count)])
 
 
@@ -395,7 +395,7 @@ def segments(out: BinaryIO, count: int, order: str, accepted: bool = False) -> s
 
 
 def segments_of_sections(out: BinaryIO, count: int, each: int) -> str:
-    """So many segments, each of so many sections of 16 bytes, which lie one after another in the file."""
+    """`count` segments, each of `each` sections of 16 bytes, which lie one after another in the file."""
     start = HEADER_SIZE + SEGMENT_SIZE + count * (SEGMENT_SIZE + each * SECTION_SIZE) + MAIN_SIZE
     size = 16 * each
     parts = []
@@ -413,7 +413,7 @@ def empty_sections(out: BinaryIO, count: int) -> str:
 
 
 def ordered_sections(out: BinaryIO, count: int, order: str) -> str:
-    """One segment of so many sections of 16 bytes, which cover the rest of the file but for its last byte."""
+    """One segment of `count` sections of 16 bytes, which cover the rest of the file but for its last byte."""
     start = HEADER_SIZE + SEGMENT_SIZE + SECTION_SIZE * count + MAIN_SIZE
     size = start + 16 * count + 1
     offsets = [start + 16 * number for number in ordered(count, order)]
@@ -424,7 +424,7 @@ def ordered_sections(out: BinaryIO, count: int, order: str) -> str:
 
 
 def gapped(count: int, between: int) -> list[bytes]:
-    """The bytes of so many sections of 16 bytes, each with this byte 16 times after it, but for the last byte."""
+    """The bytes of `count` sections of 16 bytes, each with this byte 16 times after it, but for the last byte."""
     section_and_gap = b"".join(filler(16)) + bytes([between]) * 16
     return [(section_and_gap * count)[:-1], b"\1"]
 
@@ -456,8 +456,8 @@ def parts(out: BinaryIO, count: int) -> str:
 
 
 def encrypted(out: BinaryIO, count: int, order: str) -> str:
-    """A segment of the headers and so many others of 16 bytes, and as many ranges that are encrypted. Of the bytes only
-    the last is not zero."""
+    """A segment of the headers and `count` others of 16 bytes, and as many ranges that are encrypted. Only the last of
+    the bytes is not zero."""
     start = HEADER_SIZE + SEGMENT_SIZE + count * (SEGMENT_SIZE + ENCRYPTION_INFO_SIZE) + MAIN_SIZE
     numbers = ordered(count, order)
     commands = [segment(b"__TEXT", BASE, start, 0, start)]
@@ -502,7 +502,7 @@ def padding(out: BinaryIO, mebibytes: int) -> str:
 
 
 def slices_start(count: int) -> int:
-    """Where the first of so many slices begins."""
+    """Where the first of `count` slices begins."""
     return (FAT_HEADER_SIZE + FAT_ARCH_SIZE * count + 31) // 32 * 32
 
 
@@ -604,8 +604,8 @@ def plain(out: BinaryIO, mebibytes: int) -> str:
 
 
 def with_chains(out: BinaryIO, segments_count: int, names_of_imports: Iterable[bytes]) -> str:
-    """An executable with so many writable segments of a pointer each, which have the starts of one page without a
-    chain, and imports of these names, with their zero bytes."""
+    """An executable with `segments_count` writable segments of a pointer each, which have the starts of one page
+    without a chain, and imports of these names, with their zero bytes."""
     start = HEADER_SIZE + (segments_count + 2) * SEGMENT_SIZE + LIBRARY_SIZE + LINKEDIT_DATA_SIZE + MAIN_SIZE
     text_size = -(-start // PAGE) * PAGE
     addresses = [BASE + text_size + PAGE * k for k in range(segments_count)]
@@ -698,7 +698,7 @@ def data_in_code(out: BinaryIO, count: int, order: str) -> str:
 
 
 def long_number(number: int, size: int) -> bytes:
-    """A number as a ULEB128 of so many bytes, with zeros at its end."""
+    """A number as a ULEB128 of `size` bytes, with zeros at its end."""
     return bytes(number >> 7 * k & 0x7F | 0x80 for k in range(size - 1)) + bytes((number >> 7 * (size - 1),))
 
 
@@ -809,9 +809,9 @@ SHA1, SHA256 = HASH_KINDS["sha1"], HASH_KINDS["sha256"]
 
 def code_directory(limit: int, page_bits: int = 0, identifier: bytes = b"", kind: HashKind = SHA1,
                    special: Iterable[bytes] = (), hashes: bytes = b"") -> bytes:
-    """A directory with hashes for the pages of so many bytes, or for one page of all of them if a page has 2^0 bytes. If
-    there are none, they are zeros. Those of special slots are from the last slot on. The identifier comes past the hashes,
-    with its zero byte."""
+    """A directory with hashes for the pages of `limit` bytes, or for one page of all of them if a page has 2^0 bytes.
+    If there are none, they are zeros. Those of special slots are from the last slot on. The identifier comes past the
+    hashes, with its zero byte."""
     count = -(-limit >> page_bits) if page_bits else 1
     of_slots = b"".join(special)
     hashes_start = CODE_DIRECTORY_SIZE + len(of_slots)
@@ -1402,7 +1402,7 @@ RANDOM = {"segments": random_segments, "slices": random_slices, "parts": random_
 
 
 def random_lines(count: int, kind: str) -> Iterator[str]:
-    """The lines of so many vectors."""
+    """The lines of `count` vectors."""
     rng = random.Random(kind)
     make = RANDOM[kind]
     if kind in ("parts", "elements"):

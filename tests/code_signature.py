@@ -8,7 +8,7 @@ from typing import Iterator, NamedTuple, Optional
 
 SUPERBLOB_MAGIC, DIRECTORY_MAGIC = 0xFADE0CC0, 0xFADE0C02
 SUPERBLOB_SIZE, ENTRY_SIZE, BLOB_SIZE = 12, 8, 8
-# From which version on a code directory has fields of so many bytes.
+# From which version on a code directory has fields of how many bytes.
 FIELDS_SIZES = ((0x20600, 108), (0x20500, 96), (0x20400, 88), (0x20300, 64), (0x20200, 52), (0x20100, 48), (0x20000, 44))
 HAS_SCATTER, HAS_TEAM, HAS_LIMIT_64 = 0x20100, 0x20200, 0x20300
 # The slots of code directories.

@@ -864,7 +864,7 @@ def data_in_code(image: Any, place: int) -> Explanation:
 
 # Code signatures. Their numbers are big-endian.
 
-# From which version on a code directory has fields up to so many bytes.
+# From which version on a code directory has fields up to how many bytes.
 DIRECTORY_SIZES = {0x20000: 44, 0x20100: 48, 0x20200: 52, 0x20300: 64, 0x20400: 88, 0x20500: 96, 0x20600: 108}
 
 

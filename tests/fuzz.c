@@ -571,7 +571,7 @@ static void check_known_export(const struct held *held, struct part trie, struct
     CHECK(!is_found || memcmp(&found, &wanted, sizeof found) == 0);
 }
 
-// A batch of edges: the next ones of the node, of which so many are done. It returns how many they are.
+// A batch of edges: the next ones of the node, after those that are done. It returns how many they are.
 static unsigned check_edges(const struct held *held, struct kesvuot_span trie, const struct node *node,
                             struct kesvuot_cursor *cursor, unsigned done) {
     struct kesvuot_export_edge rows[EDGES + 1];
@@ -1195,7 +1195,7 @@ static void check_unread(const struct kesvuot_image *image, bool has_slice) {
     CHECK(memcmp(image, &wanted, sizeof wanted) == 0);
 }
 
-// The image of a slice of a file that has so many. Of a refused file it may have any number.
+// The image of a slice of a file that has `slices`. A refused file may have any number.
 static void check_slice(const uint8_t *file, size_t size, uint64_t slice, uint64_t slices, enum accepted accepted) {
     struct held held = {.file = {file, size}};
     memset(&held.image, UNWRITTEN, sizeof held.image);

@@ -5,10 +5,10 @@ sources of the first one. tests/oracle compares the two. It also judges the rule
 does, and those of docs/SEALED.md, as macho-sealed does; tests/dyld loads what it accepts.
 
     tests/oracle.py FILE                        prints what `macho-check check FILE` prints, and ends with its status
-    tests/oracle.py where FILE SLICE ADDRESS    the same of `macho-check where FILE SLICE ADDRESS`
-    tests/oracle.py --strict FILE               the same of `macho-strict check FILE`
-    tests/oracle.py --linked FILE               the same of `macho-linked check FILE`
-    tests/oracle.py --sealed FILE               the same of `macho-sealed check FILE`
+    tests/oracle.py where FILE SLICE ADDRESS    the same for `macho-check where FILE SLICE ADDRESS`
+    tests/oracle.py --strict FILE               the same for `macho-strict check FILE`
+    tests/oracle.py --linked FILE               the same for `macho-linked check FILE`
+    tests/oracle.py --sealed FILE               the same for `macho-sealed check FILE`
 
 It is written to be read beside docs/RULES.md, and has the same order. A rule is a function with its name. It yields
 each place at which the rule is broken. `first_broken` takes the rules one after the other, and of the first one that
@@ -74,7 +74,7 @@ STRUCTURES = {
     "source_version_command": "u32 cmd  u32 cmdsize  u64 version",
     "linker_option_command": "u32 cmd  u32 cmdsize  u32 count",
     "target_triple_command": "u32 cmd  u32 cmdsize  u32 triple",
-    # What a thread_command has, again and again, each time with so many words after it.
+    # What a thread_command has, again and again, each time with `count` words after it.
     "thread_state": "u32 flavor  u32 count",
     "data_in_code_entry": "u32 offset  u16 length  u16 kind",
     # mach-o/nlist.h
@@ -734,7 +734,7 @@ def entry(image):
 # The strict profile. Its rules may take for granted that all above are unbroken as well.
 
 def gaps(length, ranges):
-    """What of so many bytes lies in none of the ranges, by ascending places. A range is a start and a size, and a gap
+    """What of `length` bytes lies in none of the ranges, by ascending places. A range is a start and a size, and a gap
     is a start and an end."""
     place = 0
     for start, size in sorted(ranges) + [(length, 1)]:

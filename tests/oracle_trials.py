@@ -285,7 +285,7 @@ WAYS_OF = {"layout": WAYS, "strict": {**WAYS, **STRICT_WAYS}, "linked": {**WAYS,
            "sealed": {**WAYS, **STRICT_WAYS, **SEALED_WAYS}}
 CRATES = {"layout": "macho_check", "strict": "macho_strict_check", "linked": "macho_linked_check",
           "sealed": "macho_sealed_check"}
-# For the sealed profile a file with a signature is changed so many times as often as another.
+# For the sealed profile a file with a signature is changed this many times as often as another.
 OFTEN = 20
 
 def weight(data, is_accepted, profile):
@@ -564,7 +564,7 @@ def judge_real(report, oracle, program, profile):
 # Signed files: the name of a vector, the bytes of its pages, and where its code is.
 SMALL_FILES = (("48 pages of 8 bytes", 8, range(0x110, 0x180)), ("the file as it was", 0x80, range(0x110, 0x180)),
                ("two directories, with pages of two sizes", 0x80, range(0x110, 0x180)))
-# The same of the real slice that is signed; each so many bytes, and those beside where pages begin and end.
+# The same for the real slice that is signed: each REAL_STEP-th byte, and those beside where pages begin and end.
 REAL_PAGE, REAL_CODE, REAL_LIMIT, REAL_STEP = 0x1000, range(0x2a0, 0x2a8), 0x4060, 41
 
 def files_of_one_byte():

@@ -74,7 +74,7 @@ SLIDE = 0x12345678000
 # What a look-up finds: an address whose bytes are all opcodes that no stream may have.
 FOUND = 0xf1f2f3f4f5f6f7f8
 
-# Of an export trie no more than so many names are looked up, and none that is longer.
+# How many names of an export trie are looked up at most, and how long they are at most.
 MOST_LOOK_UPS, LONGEST_NAME = 20, 1000
 
 # What is written for chains, in the place of a stream.
@@ -122,7 +122,7 @@ class Memory:
         return bytes(content[offset:offset + size]).ljust(size, b"\0")
 
     def read_judged(self, address, size):
-        """The same of the headers and of a stream, which are in a segment that can be read."""
+        """Reads bytes of the headers or of a stream, which are in a segment that can be read."""
         if self.part_of(address, size)[0].initprot & VM_PROT_READ == 0:
             raise Breach("0x%x is read, which cannot be" % address)
         return self.read(address, size)
@@ -603,5 +603,5 @@ def load(image):
     return dyld.writes
 
 def load_opcodes(image):
-    """The same of what the opcodes ask for alone."""
+    """The writes that the opcodes ask for alone."""
     return [write for write in load(image) if write.stream != CHAINS]

@@ -320,7 +320,7 @@ def start_of_thread(cputype, thread):
     return starts[0]
 
 def read_strings(command, place, count=None):
-    """Reads so many strings of a command, or all up to its end."""
+    """Reads `count` strings of a command, or all up to its end."""
     while place < len(command.content) if count is None else count > 0:
         place += len(command.text(place)) + 1
         count = count and count - 1

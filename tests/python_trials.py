@@ -586,7 +586,7 @@ def compare_groups(found, wanted):
         yield name, list(map(as_bytes, getattr(found, name))), symbols[first:first + count]
 
 
-# How many symbols are looked up: each look-up goes over all symbols here.
+# How many symbols are looked up: each look-up reads all symbols here.
 LOOKED_UP = 9
 
 
@@ -625,7 +625,7 @@ def compare_lookups(found, wanted):
 
 
 def compare_slice(found, wanted):
-    """The same of a slice, which need not be an image."""
+    """Compares a slice, which need not be an image."""
     source = wanted.header if wanted.is_64_bit else wanted.entry
     yield "place", found.place, wanted.start
     yield "bytes", found.bytes.tobytes(), wanted.data
@@ -1150,7 +1150,7 @@ def check_fault(report, name, slots, count, reason, place):
 
 
 def with_data(count):
-    """An image of so many segments between that of the headers and __LINKEDIT, each of one pointer. An opcode rebases
+    """An image of `count` segments between that of the headers and __LINKEDIT, each of one pointer. An opcode rebases
     the first slot of segment 15."""
     opcodes = bytes.fromhex("2f00 51 00")
     start = images.HEADER_SIZE + images.SEGMENT_SIZE * (count + 2) + images.DYLD_INFO_SIZE + images.MAIN_SIZE
@@ -1210,7 +1210,7 @@ def mutant_of(seeds, number):
 
 
 def compare_streams(report, name, files, least):
-    """At least so many of the files are accepted by the linked profile."""
+    """At least `least` of the files are accepted by the linked profile."""
     judged = [(which, data, verdict(data, "linked") == "accepted") for which, data in files
               if verdict(data) == "accepted"]
     report.case(f"{name} with good opcodes", sum(is_good for *_, is_good in judged) >= least, True)
@@ -1293,7 +1293,7 @@ def read_all(image):
 
 
 def judge_memory(report):
-    """Without memory there is no verdict. Of so many slices the library keeps a list."""
+    """Without memory there is no verdict. The library keeps a list of the slices."""
     with tempfile.TemporaryDirectory() as room:
         path = Path(room, "slices")
         path.write_bytes(made("slices-100000-report"))

@@ -16,7 +16,7 @@ OTHER_SLOTS = (0x1005, 0x10000, 0x10001)
 # The function of a hash and how many bytes of it are taken, by the type.
 FUNCTIONS = {1: ("sha1", 20), 2: ("sha256", 32), 3: ("sha256", 20), 4: ("sha384", 48)}
 LEAST_SIZE, GREATEST_PAGE_SIZE = 44, 31
-# No more than so many hashes of a directory are made.
+# How many hashes of a directory are made at most.
 MOST_HASHES = 5000
 
 # A directory: where its blob begins, and its fields.
@@ -171,7 +171,7 @@ def some_parts(rng, limit):
     return parts + [rng.choice(parts)] * (rng.random() < 0.05)
 
 def with_size(data, table, size):
-    """The file with a signature of so many bytes, if it is the last of the one image and of a segment; and the table."""
+    """The file with a signature of `size` bytes, if it is the last of the one image and of a segment; and the table."""
     last = [place for place in table_mutants.segments(data)
             if word(data, place + 40, 8) + word(data, place + 48, 8) == table.end]
     if table.image > 0 or table.end != len(data) or not last:

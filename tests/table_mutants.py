@@ -85,7 +85,7 @@ DIRECTORY_FIELDS = (*((offset, 4) for offset in range(0, 36, 4)), (36, 1), (37, 
 VERSIONS = {0x1ffff: 44, 0x20000: 44, 0x200ff: 44, 0x20100: 48, 0x201ff: 48, 0x20200: 52, 0x20300: 64, 0x20400: 88,
             0x20500: 96, 0x20600: 108, 0x20601: 108, 0xffffffff: 108}
 HASHES = ((1, 20), (2, 32), (3, 20), (4, 48))
-# No more than so many items of one kind are changed.
+# How many items of one kind are changed at most.
 MOST_ITEMS = 40
 
 # The operands of an opcode, by its upper four bits: `n` is a number, `s` a number with a sign, `t` a text.
@@ -207,7 +207,7 @@ def opcodes(data, stream):
     return found
 
 def uleb(number, spare=0):
-    """The bytes of a number, with so many zeros at its end."""
+    """The bytes of a number, with `spare` zeros at its end."""
     content = bytearray()
     while number >= 0x80:
         content.append(number & 0x7f | 0x80)
@@ -503,7 +503,7 @@ def set_page_start(rng, data, table):
     return set_word(data, page.place, start, 2)
 
 def some_pointer(rng, data, table, form, room):
-    """A pointer, with so many bytes up to the end of its page or segment: where the next one is, and what it binds."""
+    """A pointer, with `room` bytes up to the end of its page or segment: where the next one is, and what it binds."""
     bits_of_next, step, bind, bits_of_ordinal = POINTERS[form]
     further = rng.choice((0, 0, 4, 8, 8, 12, 16, room - 8, room - 4, room, rng.randrange(64), rng.randrange(0x4000)))
     near = rng.choice((0, -1, -1, 1, rng.randrange(-8, 8)))
@@ -807,8 +807,8 @@ def set_signature_field(rng, data, table):
     return set_big(data, place, number, width)
 
 def some_directory(rng, limit, special_count=None):
-    """A directory, with hashes of zeros, a text or two, and special slots, any few of these or so many. In most of them
-    all is in its place."""
+    """A directory, with hashes of zeros, a text or two, and special slots, any few of these or `special_count`. In
+    most of them all is in its place."""
     def off_by(number):
         return max(number + rng.choice((-1, 1)), 0) if rng.random() < 0.03 else number
 
@@ -930,7 +930,7 @@ def set_content(data, table, cmd, content):
             + content[:room].ljust(room, b"\0") + data[table.end:])
 
 def some_state(rng, size):
-    """A state of some other flavor, in so many bytes."""
+    """A state of some other flavor, in `size` bytes."""
     flavor = rng.choice((0, 1, 5, 5, 5, 8, 10, 17))
     count = max(size // 4 - 2 + rng.choice((0,) * 20 + (1, -1, 2 ** 30)), 0)
     return (flavor.to_bytes(4, "little") + (count % 2 ** 32).to_bytes(4, "little")).ljust(size, b"\0")[:size]

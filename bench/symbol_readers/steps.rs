@@ -55,7 +55,7 @@ impl Task {
         Ok(opened)
     }
 
-    /// The same of a loop over the symbols of images. It prints the sums, too.
+    /// Times a loop over the symbols of images. It prints the sums, too.
     pub fn sum<T>(
         &self,
         name: &str,
