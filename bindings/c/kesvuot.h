@@ -430,11 +430,11 @@ struct kesvuot_cursor {  /* the numbers are the library's own, and any are safe 
     uint64_t place;      /* where the next load command begins in the slice */
     uint64_t commands;   /* how many load commands are before it */
     uint64_t segment;    /* where the LC_SEGMENT_64 of the next section begins in the slice */
-    uint64_t items;      /* of kesvuot_read_symbols, kesvuot_read_indirects and kesvuot_read_relocations the index of
-                            the next row, which you can also set; otherwise a count of sections. Of
+    uint64_t items;      /* for kesvuot_read_symbols, kesvuot_read_indirects and kesvuot_read_relocations the index of
+                            the next row, which you can also set; otherwise a count of sections. For
                             kesvuot_read_function_starts and kesvuot_read_data_in_code: `place` is where the next number
                             or entry begins in the slice, `items` how many bytes or entries there are from there on, and
-                            `segment` the address of the last function. Of kesvuot_read_blobs `place` is the index of
+                            `segment` the address of the last function. For kesvuot_read_blobs `place` is the index of
                             the next blob, `segment` where the signature begins in the slice, `items` its size, and
                             `commands` the least offset of that blob in it */
 };
@@ -645,8 +645,8 @@ size_t kesvuot_read_names(const void *file, size_t size, const struct kesvuot_im
 /* Symbols by address
  *
  * An index names the symbols whose value is an address by their indices in the table of symbols, in the order of these
- * addresses. Such a symbol has the type N_SECT, and is no debugging entry (N_STAB). Of symbols at one address, the one
- * that is first in the table comes first. The caller has the memory of an index: image.symbol_count entries are enough.
+ * addresses. Such a symbol has the type N_SECT, and is no debugging entry (N_STAB). Symbols at one address are in the
+ * order of the table. The caller has the memory of an index: image.symbol_count entries are enough.
  *
  *     size_t count = kesvuot_index_symbols(file, size, &image, index, max), at;
  *     struct kesvuot_symbol symbol;
@@ -786,8 +786,8 @@ enum {
     KESVUOT_TABLE_ENCRYPTED = 14 /* cryptoff, cryptsize */
 };
 
-/* A table of an image, by one of these numbers. Of several such commands it is a table of the first, be it LC_DYLD_INFO
- * or LC_DYLD_INFO_ONLY. The linked profile accepts no second one of these two.
+/* A table of an image, by one of these numbers. With several such commands it is a table of the first, LC_DYLD_INFO or
+ * LC_DYLD_INFO_ONLY alike. The linked profile accepts no second one of these two.
  * OK: all bytes of the table. If it has no items, there are none, whatever its offset is.
  * NONE: the image has no such command, or there is no such number. In a file that was not accepted, also if the table
  * ends past the image. After NONE the span is empty. */

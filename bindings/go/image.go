@@ -212,8 +212,8 @@ const (
 	EncryptedTable Table = 14
 )
 
-// Table returns a table of the image. It is not ok if no command bounds it. Of several such commands it is a table of
-// the first. Each call rescans the load commands.
+// Table returns a table of the image. It is not ok if no command bounds it. With several such commands it is a table
+// of the first. Each call rescans the load commands.
 func (image *Image) Table(table Table) (bytes []byte, ok bool) {
 	return readBounded(image, table)
 }

@@ -992,7 +992,7 @@ static void try_odd_nodes(void) {
              &(struct wanted_node){0, {NO_EXPORT, {1, 1}, {3, 0, 0, 0}, 0, 0}, 0, {{{0, 0}, 0}}});
     try_node(parts, sizeof parts, &image, all,
              &(struct wanted_node){3, {NO_EXPORT, {4, 2}, {7, 0, 0, 0}, 0, 0}, 0, {{{0, 0}, 0}}});
-    // Of three edges the last has no zero byte after its label.
+    // The last of three edges has no zero byte after its label.
     static const uint8_t edges[] = {0, 3, 0, 9, 'a', 'b', 0, 0x80, 1, 'c'};
     const struct kesvuot_span trie = {0, sizeof edges};
     struct kesvuot_export_edge rows[4];

@@ -19,8 +19,8 @@ from ._structures import LISTED, STRUCTURES
 from .constants import LC_DYSYMTAB, LC_ID_DYLIB, LC_SYMTAB
 
 SAME, DIFFERENT, NOT_COMPARED = range(3)
-# Of these fields are compared, and not all bytes: LC_SEGMENT_64, LC_UUID, LC_BUILD_VERSION, LC_MAIN, LC_VERSION_MIN_..,
-# and libraries.
+# Those of which fields are compared, and not all bytes: LC_SEGMENT_64, LC_UUID, LC_BUILD_VERSION, LC_MAIN,
+# LC_VERSION_MIN_.., and libraries.
 READ = {0x19, 0x1B, 0x32, 0x8000_0028, 0x24, 0x25, 0x2F, 0x30, *LIBRARIES}
 # All but cmd and cmdsize.
 FIELDS = {cmd: [field.name for field in STRUCTURES[LISTED[cmd]][2:]] for cmd in (LC_SYMTAB, LC_DYSYMTAB)}

@@ -362,8 +362,8 @@ class Image(Slice):
         return _rows.batches(self._data, self._image, _rows.BLOBS)
 
     def table(self, table: BoundedTable) -> Optional[memoryview]:
-        """A table of the image, or None if no command bounds it. Of several such commands it is a table of the first.
-        Each call rescans the load commands."""
+        """A table of the image, or None if no command bounds it. With several such commands it is a table of the
+        first. Each call rescans the load commands."""
         status, found = self._span(load().kesvuot_find_table, table.value)
         return found if status == _library.OK else None
 

@@ -11,7 +11,7 @@ from ._library import Bytes
 from ._rows import _text
 from .constants import LC_DYLD_INFO, LC_DYLD_INFO_ONLY
 
-# Of a dyld_info_command: where the offset and the size of each stream are.
+# Where the offset and the size of each stream are in a dyld_info_command.
 REBASE, BIND, WEAK_BIND, LAZY_BIND = 8, 16, 24, 32
 SPAN = Struct("<2I")
 
@@ -74,7 +74,7 @@ class Bind(NamedTuple):
 
     An `ordinal` above 0 is that of `Image.libraries[ordinal - 1]`. The others are 0 for the image itself, -1 for the
     main executable, -2 for all images in their order, and -3 for all with weak definitions. A bind of `weak_binds` is
-    looked up in all images, whatever the ordinal. Of `flags`, 1 is BIND_SYMBOL_FLAGS_WEAK_IMPORT, and 8
+    looked up in all images, whatever the ordinal. In `flags`, 1 is BIND_SYMBOL_FLAGS_WEAK_IMPORT, and 8
     BIND_SYMBOL_FLAGS_NON_WEAK_DEFINITION. `segment` and `kind` are as in a Rebase."""
 
     address: int

@@ -66,10 +66,10 @@ TABLES: Dict[int, Tuple[TableForm, ...]] = {
     **{cmd: TABLES_OF_STRUCTURES.get(structure, ()) for cmd, structure in (*LISTED.items(), *UNLISTED.items())},
     **{cmd: (TableForm(name, "dataoff", "datasize"),) for cmd, name in LINKEDIT_DATA.items()}}
 
-# Of the listed commands with records: where their count is, and their size.
+# For the listed commands with records: where their count is, and their size.
 RECORDS = {LC_SEGMENT_64: (64, SECTION.size), LC_BUILD_VERSION: (20, 8)}
 
-# Between runs of nonzero bytes that are drawn as one there are fewer zeros than this, or than one in so many of a gap.
+# Between runs of nonzero bytes that are drawn as one there are fewer zeros than this, or than this part of a gap.
 NEAR, RUNS = 16, 256
 PIECE = 1 << 20
 ZEROS = bytes(PIECE)
@@ -314,7 +314,7 @@ def merged(ranges: Iterable[Range]) -> List[Range]:
 
 
 def _rest(data: memoryview, parts: List[Part]) -> Iterator[Part]:
-    """The gaps between all elements, and their nonzero bytes. Of an image whose commands cannot be followed nobody
+    """The gaps between all elements, and their nonzero bytes. In an image whose commands cannot be followed nobody
     knows which these are."""
     unknown = {part.slice for part in parts if part.kind == "broken walk"}
     claimed = merged(_range(part, data) for part in parts

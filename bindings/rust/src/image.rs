@@ -468,8 +468,8 @@ impl<'a> Image<'a> {
         (status == ffi::OK).then(|| self.part(data))
     }
 
-    /// A table of the image. `None` if no command bounds it. Of several such commands it is a table of the
-    /// first. Each call rescans the load commands.
+    /// A table of the image. `None` if no command bounds it. With several such commands it is a table of
+    /// the first. Each call rescans the load commands.
     ///
     /// ```
     /// # let path = concat!(env!("CARGO_MANIFEST_DIR"), "/../../tests/real/program");

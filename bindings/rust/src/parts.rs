@@ -118,9 +118,9 @@ pub struct Section<'a> {
     pub nreloc: u32,
     /// Its type, and its attributes.
     pub flags: u32,
-    /// Of stubs and pointers: the index of the first indirect entry.
+    /// For stubs and pointers: the index of the first indirect entry.
     pub reserved1: u32,
-    /// Of stubs: how many bytes each has.
+    /// For stubs: how many bytes each has.
     pub reserved2: u32,
 }
 

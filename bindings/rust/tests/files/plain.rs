@@ -319,7 +319,7 @@ fn compare_symbols(image: &Image, commands: &[Plain]) {
     assert_eq!(image.symbol(nsyms), None);
 }
 
-/// Of symbols with an index, the nearest at or before an address.
+/// Among symbols with an index, the nearest at or before an address.
 fn nearest(symbols: &[(u64, Symbol)], address: u64) -> Option<(u64, Symbol)> {
     symbols
         .iter()
@@ -630,7 +630,7 @@ fn compare_exports(image: &Image, commands: &[Plain]) {
 
 fn compare_addresses(image: &Image, commands: &[Plain]) {
     let segments: Vec<_> = all_of(commands, LC_SEGMENT_64).collect();
-    // Of many segments a few will do.
+    // A few of many segments will do.
     for bytes in segments.iter().step_by(1 + segments.len() / 8) {
         let (vmaddr, vmsize, filesize) = (long(bytes, 24), long(bytes, 32), long(bytes, 48));
         for start in [
