@@ -2484,7 +2484,7 @@ static void judge_imports(const struct chains *chains) {
     judge_imports_of(chains, format);
 }
 
-// The rules of the chain table of an LC_DYLD_CHAINED_FIXUPS. Of size 0 there is none, and the command is broken.
+// The rules of the chain table of an LC_DYLD_CHAINED_FIXUPS. With size 0 there is none, and the command is broken.
 static void judge_chains(const struct linked *linked, uint64_t place) {
     const uint8_t *command = linked->image->bytes + place;
     uint64_t start = FIELD(command, linkedit_data_command, dataoff);

@@ -593,7 +593,7 @@ def long_moves(out: BinaryIO, mebibytes: int) -> str:
 
 
 def plain(out: BinaryIO, mebibytes: int) -> str:
-    """Of four pointers three are rebased, and the fourth of some is bound."""
+    """Three of four pointers are rebased, and the fourth of some is bound."""
     fours = 250_000
     rebase = REBASE_FIRST + b"\x53\x41" * fours + DONE
     # Past the first three, and then from one fourth to the next.
@@ -864,8 +864,8 @@ def long_identifier(out: BinaryIO, mebibytes: int) -> str:
 
 
 def sealed(out: BinaryIO, limit: int, blobs_of: Callable[[bytes], list[tuple[int, bytes]]]) -> str:
-    """The same, with the slots and blobs that are made of the bytes before the signature. Of other bytes they have as
-    many bytes."""
+    """The same, with the slots and blobs that are made of the bytes before the signature. For other bytes they have
+    as many bytes."""
     unsealed = io.BytesIO()
     line = signed(unsealed, limit, superblob(blobs_of(bytes(limit))))
     content = unsealed.getvalue()[:limit]

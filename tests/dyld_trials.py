@@ -49,7 +49,7 @@ oracle = None
 # The profile, which is known then.
 profile = None
 
-# Of a file: its verdict, how many writes there were to each stream, and the breach, or None.
+# For a file: its verdict, how many writes there were to each stream, and the breach, or None.
 Loaded = namedtuple("Loaded", "verdict writes breach")
 
 def load_module(path):

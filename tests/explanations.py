@@ -845,8 +845,8 @@ def function_start(image: Any, place: int) -> Explanation:
 
 
 def data_in_code(image: Any, place: int) -> Explanation:
-    """Of an entry whose kind is known `value` is where its bytes end, and `limit` where those of the segment do in which
-    they begin."""
+    """For an entry whose kind is known `value` is where its bytes end, and `limit` where those of the segment do in
+    which they begin."""
     table = linked_table(image, "data in code")
     if table.size % 8:
         return Explanation(structure("byte", place, 1), table, NONE, table.size, 8)

@@ -204,7 +204,7 @@ static struct rows read_table(unsigned number, const struct held *held, enum acc
     struct kesvuot_cursor cursor = {0};
     uint64_t wanted;
     memcpy(&wanted, (const uint8_t *)&held->image + table->count_at, sizeof wanted);
-    // Of an image that was not judged, symbols and indirect entries may be said to be many more.
+    // In an image that was not judged, symbols and indirect entries may be said to be many more.
     size_t max = wanted <= held->file.size ? (size_t)wanted : held->file.size;
     struct rows all = read_rows(table, held, &cursor, max + 1);
     CHECK(all.count == wanted || (!accepted && number >= SYMBOLS && all.count < wanted));

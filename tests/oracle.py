@@ -138,18 +138,18 @@ LC_UUID, LC_ENCRYPTION_INFO_64, LC_BUILD_VERSION, LC_MAIN = 0x1b, 0x2c, 0x32, 0x
 LC_TWOLEVEL_HINTS, LC_ATOM_INFO, LC_FUNCTION_VARIANTS, LC_FUNCTION_VARIANT_FIXUPS = 0x16, 0x36, 0x37, 0x38
 LC_DYLD_CHAINED_FIXUPS = 0x80000034
 
-# Of the opcodes of LC_DYLD_INFO: the types that are judged.
+# The opcodes of LC_DYLD_INFO: the types that are judged.
 REBASE_TYPE_POINTER, BIND_TYPE_POINTER = 1, 1
 BIND_SPECIAL_DYLIB_WEAK_LOOKUP = -3
 
-# Of chained fixups: the sizes of a page; how many ordinals, the greatest ones, are below 0; the start of a page without
+# Chained fixups: the sizes of a page; how many ordinals, the greatest ones, are below 0; the start of a page without
 # a chain; and the bytes of a page start and of a pointer.
 PAGE_SIZES = (0x1000, 0x4000)
 SPECIAL_ORDINALS = 15
 DYLD_CHAINED_PTR_START_NONE = 0xffff
 PAGE_START_SIZE, POINTER_SIZE = 2, 8
 
-# Of exports: the flags that are known, and what some of them say; and the least ordinal that is below 0, where these
+# Exports: the flags that are known, and what some of them say; and the least ordinal that is below 0, where these
 # have 64 bits.
 EXPORT_SYMBOL_FLAGS = 0x1f
 EXPORT_SYMBOL_FLAGS_KIND_MASK, EXPORT_SYMBOL_FLAGS_KIND_ABSOLUTE, KIND_UNKNOWN = 0x3, 0x2, 0x3
@@ -214,7 +214,7 @@ THREADS = (LC_THREAD, LC_UNIXTHREAD)
 # The kinds of data in code, from DICE_KIND_DATA up to and including DICE_KIND_ABS_JUMP_TABLE32.
 DICE_KINDS = range(1, 6)
 
-# Of code signatures: the magic numbers; the slots of directories, of which there can be five alternate ones, and the
+# Code signatures: the magic numbers; the slots of directories, of which there can be five alternate ones, and the
 # special slots; the least version, and how many bytes the fields have of a version and of those up to the next; the
 # versions from which some of the fields are there; the bytes of a hash, by its type, and its name and how it is made; the
 # greatest logarithm of a page's bytes; and how many bytes of the hash of a directory are printed.
@@ -1330,7 +1330,7 @@ def table_of(image, kind):
     return next((table for table in linked_tables(image) if table.kind == kind), None)
 
 def last_before(starts, number_of):
-    """Of ascending starts the index of the last one that is not above the number, or None."""
+    """Among ascending starts the index of the last one that is not above the number, or None."""
     at = bisect.bisect(starts, number_of)
     return at - 1 if at > 0 else None
 

@@ -3,7 +3,7 @@
 
 It judges the vectors of crates/macho_trials/data, the reports of tests/reports.txt, the files of tests/real, those of
 folders that are named, and mutants of the vectors and of all files. Mutant N of a seed is always the same. For each
-case it prints a line of three texts with tabs between them: the case, what was found, and what is wanted. Of each
+case it prints a line of three texts with tabs between them: the case, what was found, and what is wanted. For each
 disagreement it prints both answers on standard error, and keeps the file.
 
 With --strict the verdicts are those of the strict profile, and the program is macho-strict; with --linked those of the
@@ -422,7 +422,7 @@ class Report:
                   "%d of %d %s agree" % (count, count, of_what))
 
     def show(self, difference, other="program"):
-        """The two answers. Of the first few, that is: one mistake makes many differences."""
+        """The two answers, for the first few: one mistake makes many differences."""
         self.shown += 1
         if self.shown > SHOWN:
             return

@@ -11,10 +11,10 @@ pages that are not those of the segment, or cannot be written; more writes of a 
 or more steps than the bytes and writes explain; a function where the file has no byte; data of no kind, or not in the
 bytes of one executable segment. So it ends on all files, and on one that breaks the rules it says how.
 
-Of an export trie it reads all nodes, as a tool that lists the exports does, and looks some of the names up. There a
+It reads all nodes of an export trie, as a tool that lists the exports does, and looks some of the names up. There a
 breach is also a terminal part that is not read to its end or says what is not known, and an address in no segment.
 
-Of tests/oracle.py it takes the commands of an image, and nothing that decodes a stream.
+From tests/oracle.py it takes the commands of an image, and nothing that decodes a stream.
 """
 
 import bisect
@@ -56,8 +56,8 @@ LC_ENCRYPTION_INFO_64 = 0x2c
 VM_PROT_READ, VM_PROT_WRITE, VM_PROT_EXECUTE = 1, 2, 4
 SG_PROTECTED_VERSION_1 = 8
 
-# mach-o/fixup-chains.h. Of an import, by its format: its size, how many bits its ordinal has, and from which bit up to
-# which one the offset of its name is. Of a pointer, by its format: the mask of `next`, which begins at bit 51, the
+# mach-o/fixup-chains.h. For an import, by its format: its size, how many bits its ordinal has, and from which bit up to
+# which one the offset of its name is. For a pointer, by its format: the mask of `next`, which begins at bit 51, the
 # bytes of a step of it, the bit that says bind, and the mask of the ordinal.
 DYLD_CHAINED_IMPORT, DYLD_CHAINED_IMPORT_ADDEND, DYLD_CHAINED_IMPORT_ADDEND64 = 1, 2, 3
 IMPORTS = {DYLD_CHAINED_IMPORT: (4, 8, 9, 32), DYLD_CHAINED_IMPORT_ADDEND: (8, 8, 9, 32),

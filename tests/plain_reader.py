@@ -9,7 +9,7 @@ or a section that is not there, an address of a symbol that no segment has, a re
 pointer, a thread without a start or with two, a second thread or routine, one that begins where no code is, and a command
 for another kind of image. So it ends on all files, and on one that breaks the rules of docs/LINKED.md it says how.
 
-It reads the superblob, its index and all blobs. Of each code directory it reads the fields of its version, the
+It reads the superblob, its index and all blobs. In each code directory it reads the fields of its version, the
 identifier, the team, the hashes of the special slots, and each page with its hash. What a hash should be it does not ask.
 
 `read_seal` reads signatures alone, and asks that: it compares each page and each blob of a special slot with its hash in
@@ -17,7 +17,8 @@ each directory. A hash that is another, or that is not there, raises `Breach`, a
 page, a byte of the signature or past it that is not zero and in no blob, two directories of one slot, and an image
 without a signature. So it says how a file breaks the rules of docs/SEALED.md.
 
-Of tests/oracle.py it takes the commands, segments and sections of an image, and nothing that decodes what it reads here.
+From tests/oracle.py it takes the commands, segments and sections of an image, and nothing that decodes what it reads
+here.
 """
 
 import hashlib

@@ -315,7 +315,7 @@ def compare_reads(report, all_kinds):
 
 
 def compare_mixed(report, mixed):
-    """Of a slice that is not read there is nothing but the slice, and of a bare header no line but these."""
+    """For a slice that is not read there is nothing but the slice, and for a bare header no line but these."""
     unread, bare = kesvuot.verify(mixed).slices
     report.case("a slice that is not read", (type(unread), unread.place, unread.bytes.tobytes(), unread.arch),
                 (kesvuot.Slice, 64, oracle.MH_MAGIC, "0x7/0x3"))
@@ -388,7 +388,7 @@ def wanted_libraries(image, is_id):
 
 
 def wanted_builds(image):
-    """Of each LC_BUILD_VERSION; and of each version_min_command that is long enough, by the platform of its cmd."""
+    """Those of LC_BUILD_VERSION, and of each version_min_command that is long enough, by the platform of its cmd."""
     for it in image.commands:
         if it.cmd == oracle.LC_BUILD_VERSION:
             yield *struct.unpack_from("<3I", image.data, it.place + 8), it.cmd
@@ -533,7 +533,7 @@ def edges(image):
 
 
 def compare_image(found, wanted):
-    """Of each view a triple: its name, what it gives, and what the oracle reads."""
+    """A triple for each view: its name, what it gives, and what the oracle reads."""
     main = wanted.only(oracle.LC_MAIN)
     uuid = wanted.only(oracle.LC_UUID)
     yield "filetype", found.filetype, wanted.header.filetype
@@ -652,7 +652,7 @@ def compare_views(report, name, files):
 
 
 def compare_signatures(report):
-    """Of vectors of the linked and the sealed profile which they refuse, too: they are accepted by the layout."""
+    """On vectors of the linked and the sealed profile which they refuse, too: they are accepted by the layout."""
     vectors = [vector for path in (oracle_trials.LINKED, oracle_trials.SEALED)
                for vector in oracle_trials.read_vectors(path) if verdict(vector.data) == "accepted"]
     report.alike("the signatures and threads of vectors of the linked and the sealed profile", "answers", (
@@ -1190,8 +1190,8 @@ def judge_much(report):
 
 
 def judge_streams(report):
-    """Of the vectors and of mutants of these and of the real files: a file that the linked profile accepts has the
-    slots that the plain dyld writes. Of another the slots are given up to an opcode that cannot be followed."""
+    """On the vectors and on mutants of these and of the real files: a file that the linked profile accepts has the
+    slots that the plain dyld writes. For another the slots are given up to an opcode that cannot be followed."""
     vectors = [(vector.name, vector.data) for vector in images.read_vectors(oracle_trials.LINKED)]
     twice = [data for name, data in vectors if name == "two rebase streams"]
     report.case("a second command with opcodes", [fault_of(kesvuot.verify(data).images[0].rebases) for data in twice],

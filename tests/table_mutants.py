@@ -46,8 +46,8 @@ STARTS_FIELDS = ((0, 4), (4, 2), (6, 2), (8, 8), (16, 4), (20, 2))
 STARTS_SIZE = 22
 IMPORT_SIZES = {1: 4, 2: 8, 3: 16}
 PAGE_SIZES = (0x1000, 0x4000)
-# Of a pointer, by its format: how many bits `next` has, which begins at bit 51, the bytes of a step of it, the bit that
-# says bind, and how many bits the ordinal has.
+# For a pointer, by its format: how many bits `next` has, which begins at bit 51, the bytes of a step of it, the bit
+# that says bind, and how many bits the ordinal has.
 POINTERS = {1: (11, 8, 62, 16), 2: (12, 4, 63, 24), 6: (12, 4, 63, 24), 9: (11, 8, 62, 16), 12: (11, 8, 62, 24)}
 NEXT_BIT, POINTER_SIZE, NO_CHAIN = 51, 8, 0xffff
 # mach-o/loader.h. The size of a data_in_code_entry, whose fields are of 4, 2 and 2 bytes.
@@ -126,7 +126,7 @@ def streams(data):
                         found.append(Stream(name, field, start, start + size))
     return found
 
-# Of the commands that name one table that is no stream: where its start is in the command, and its kind.
+# For the commands that name one table that is no stream: where its start is in the command, and its kind.
 KINDS = {LC_DYLD_CHAINED_FIXUPS: (8, Chains), LC_FUNCTION_STARTS: (8, Starts), LC_DATA_IN_CODE: (8, Entries),
          LC_DYLD_EXPORTS_TRIE: (8, Trie), LC_DYLD_INFO: (EXPORTS, Trie), LC_DYLD_INFO_ONLY: (EXPORTS, Trie),
          LC_CODE_SIGNATURE: (8, Signature)}

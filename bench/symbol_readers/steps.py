@@ -18,7 +18,7 @@ class Sums(NamedTuple):
 
 
 def run(open_images: Callable[[Path], list], **loops: Callable[[list], Sums]) -> None:
-    """Takes each step in each round, as often as the words ask for, and prints how many nanoseconds that took. Of a
+    """Takes each step in each round, as often as the words ask for, and prints how many nanoseconds that took. For a
     loop it also prints the sums."""
     rounds, repeats, path = int(sys.argv[1]), int(sys.argv[2]), Path(sys.argv[3])
 
