@@ -1,27 +1,17 @@
-#!/usr/bin/env python3
-"""What tests/examples asks the examples, and what they must answer. Nothing here comes from the library or its program.
-
-    tests/examples_trials.py lines FILE NM OBJDUMP      prints what `symbolize FILE` must print of addresses that begin
-                                                        and end its symbols and sections, by llvm-nm and llvm-objdump
-    tests/examples_trials.py parts FILE FOLDER          makes the files that `extract FILE` must make, and prints its
-                                                        lines, by the readers of tests/oracle.py
-    tests/examples_trials.py mutants COUNT FOLDER [FILE..]
-                                                        makes FOLDER/1, FOLDER/2 and so on, so many mutants that
-                                                        tests/oracle.py accepts: of the vectors, of tests/real, and of
-                                                        other files
+"""What tests/examples asks the examples, and what they must answer. Nothing here comes from the library or its program:
+the lines of `symbolize` are by llvm-nm and llvm-objdump, and the files that `extract` makes by the readers of
+tests/oracle.py. The mutants are those that tests/oracle.py accepts.
 """
 
 from __future__ import annotations
 
 import re
 import subprocess
-import sys
 from pathlib import Path
 from typing import Iterator, NamedTuple
 
-sys.dont_write_bytecode = True
-import oracle  # pylint: disable=wrong-import-position
-import oracle_trials  # pylint: disable=wrong-import-position
+import oracle
+import oracle_trials
 
 SEED = 1
 MOST_ADDRESSES = 500
@@ -93,7 +83,8 @@ def line_of(address: int, sections: list[Section], symbols: list[Symbol]) -> str
     return f"{address:#x} ?"
 
 
-def print_lines(path: Path, nm: str, objdump: str) -> None:
+def lines_of(path: Path, nm: str, objdump: str) -> list[str]:
+    """What `symbolize` must print of addresses that begin and end the symbols and sections of a file."""
     sections, symbols = list(read_sections(objdump, path)), read_symbols(nm, path)
     assert sections and symbols
     assert len({section[:2] for section in sections}) == len(sections), "LLVM does not say which section a symbol is of"
@@ -103,8 +94,7 @@ def print_lines(path: Path, nm: str, objdump: str) -> None:
     for section in sections:
         end = section.addr + section.size
         addresses |= {max(section.addr - 1, 0), section.addr, end - 1, end}
-    for address in sorted(addresses):
-        print(line_of(address, sections, symbols))
+    return [line_of(address, sections, symbols) for address in sorted(addresses)]
 
 
 # Parts
@@ -117,7 +107,7 @@ def plain(name: bytes) -> str:
 
 
 def parts(data: bytes) -> Iterator[tuple[str, int, int]]:
-    """The name of each file, and the place and the size of its bytes."""
+    """The name of each file that `extract` must make, and the place and the size of its bytes."""
     for index, image in enumerate(oracle.File(data).slices):
         yield f"{index}.slice", image.start, image.length
         for number, section in enumerate(image.sections if image.is_64_bit else []):
@@ -126,18 +116,11 @@ def parts(data: bytes) -> Iterator[tuple[str, int, int]]:
                 yield name, image.start + section.offset, section.size
 
 
-def make_parts(path: Path, folder: Path) -> None:
-    data = path.read_bytes()
-    for name, place, size in parts(data):
-        (folder / name).write_bytes(data[place:place + size])
-        print(f"{name} {place:#x} {size:#x}")
-
-
 # Mutants
 
 
 def accepted_mutants(others: list[bytes]) -> Iterator[bytes]:
-    """Mutants that are accepted, and are none of the files."""
+    """Mutants of the vectors, of tests/real, and of other files, that are accepted and are none of the files."""
     files = [data for _, data, _ in oracle_trials.read_real()] + others
     vectors = [vector for _, some in oracle_trials.read_all_vectors(False) for vector in some]
     corpus = files + [vector.data for vector in vectors]
@@ -149,22 +132,3 @@ def accepted_mutants(others: list[bytes]) -> Iterator[bytes]:
         number += 1
         if data not in files and oracle.first_broken(oracle.File(data)) is None:
             yield data
-
-
-def make_mutants(count: int, folder: Path, paths: list[Path]) -> None:
-    others = [path.read_bytes() for path in paths]
-    for number, data in zip(range(1, count + 1), accepted_mutants(others)):
-        (folder / str(number)).write_bytes(data)
-
-
-def main(words: list[str]) -> None:
-    if words[0] == "lines":
-        print_lines(Path(words[1]), *words[2:])
-    elif words[0] == "parts":
-        make_parts(Path(words[1]), Path(words[2]))
-    else:
-        make_mutants(int(words[1]), Path(words[2]), [Path(word) for word in words[3:]])
-
-
-if __name__ == "__main__":
-    main(sys.argv[1:])

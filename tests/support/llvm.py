@@ -1,4 +1,4 @@
-"""What llvm-objdump lists of Mach-O files."""
+"""The newest tools of LLVM, and what llvm-objdump lists of Mach-O files."""
 
 from __future__ import annotations
 
@@ -10,10 +10,14 @@ import oracle
 from .calling import has_tool
 
 
-def llvm_objdump() -> str | None:
-    """The newest llvm-objdump whose name ends with its version, or the one whose name does not."""
-    names = [f"llvm-objdump-{version}" for version in range(40, 13, -1)] + ["llvm-objdump"]
+def newest(tool: str) -> str | None:
+    """The newest tool of LLVM whose name ends with its version, or the one whose name does not."""
+    names = [f"{tool}-{version}" for version in range(40, 13, -1)] + [tool]
     return next(filter(has_tool, names), None)
+
+
+def llvm_objdump() -> str | None:
+    return newest("llvm-objdump")
 
 
 def parts_of_slices(text: str, path: Path) -> list[str]:
