@@ -1,12 +1,12 @@
 #!/usr/bin/env python3
-"""Prints the tables of docs/RULES.md for bench/floor.c and tests/fuzz.c: the rules, with those of docs/LINKED.md after
-them, the filetypes that are judged, the listed commands and their bounded tables. tests/oracle.py reads all but the
-first there.
+"""Prints the tables of docs/RULES.md for bench/floor.c and tests/fuzz.c: the rules of each profile, with those of
+docs/LINKED.md and docs/SEALED.md, the filetypes that are judged, the listed commands and their bounded tables.
+tests/oracle.py reads all but the rules there.
 
     bench/rules_tables.py >rules_tables.h
 
-Each table is a macro with a row `X(..)` for each of its lines. A row of a command ends with the index of the first of
-its tables, and how many it has.
+Each table is a macro with a row `X(..)` for each of its lines. RULES has those of all profiles but the sealed one. A
+row of a command ends with the index of the first of its tables, and how many it has.
 """
 
 from __future__ import annotations
@@ -28,10 +28,19 @@ def macro(name: str, rows: Iterable[str]) -> str:
     return f"#define {name}(X)" + "".join(f" \\\n    X({row})" for row in rows) + "\n"
 
 
-def rule_rows() -> Iterator[str]:
-    for page in "RULES.md", "LINKED.md":
-        for name in oracle.rows_of("^### `([a-z-]+)`$", page):
-            yield f'{name.upper().replace("-", "_")}, "{name}"'
+def rules_of_profiles() -> dict[str, list[str]]:
+    """The names of the rules. The strict profile has those of RULES.md that stand after its heading."""
+    headings = oracle.rows_of("^##+ (The strict profile|`[a-z-]+`)$")
+    first = headings.index("The strict profile")
+    pages = [oracle.rows_of("^### (`[a-z-]+`)$", page) for page in ("LINKED.md", "SEALED.md")]
+    names = headings[:first], headings[first + 1:], *pages
+    return {profile: [name.strip("`") for name in of_profile]
+            for profile, of_profile in zip(("LAYOUT", "STRICT", "LINKED", "SEALED"), names)}
+
+
+def rule_rows(names: Iterable[str]) -> Iterator[str]:
+    for name in names:
+        yield f'{name.upper().replace("-", "_")}, "{name}"'
 
 
 def filetype_rows() -> Iterator[str]:
@@ -49,9 +58,10 @@ def command_rows() -> Iterator[str]:
 def header() -> str:
     constants = [f"#define {command} {cmd:#x}u\n" for command, (cmd, *_) in oracle.COMMANDS.items()]
     return "\n".join((
-        "// Made by bench/rules_tables.py of docs/RULES.md and docs/LINKED.md.\n",
+        "// Made by bench/rules_tables.py of docs/RULES.md, docs/LINKED.md and docs/SEALED.md.\n",
         "".join(constants),
-        macro("RULES", rule_rows()),
+        *(macro(f"{profile}_RULES", rule_rows(names)) for profile, names in rules_of_profiles().items()),
+        "#define RULES(X) LAYOUT_RULES(X) STRICT_RULES(X) LINKED_RULES(X)\n",
         macro("FILETYPES", filetype_rows()),
         macro("LISTED_COMMANDS", command_rows()),
         macro("BOUNDED_TABLES", (", ".join(map(str, table)) for table in TABLES)),

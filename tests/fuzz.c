@@ -46,10 +46,15 @@ enum accepted { REFUSED = 0, ACCEPTED, ACCEPTED_STRICTLY };
 
 // Counters
 
-// The kinds from RULES on are the rules, by their numbers. KESVUOT_SIGNATURE_HASH is the greatest of these.
+#define AND_ONE(rule, name) +1
+
+// How many rules there are. Their numbers begin at 1, and none is left out.
+enum { RULE_COUNT = RULES(AND_ONE) SEALED_RULES(AND_ONE) };
+
+// The kinds from VERDICT on are no rule, and the rules by their numbers.
 enum {
-    TABLES = 0, SLICES = 9, IMAGE, ADDRESS, DATA, BOUNDED, NAME, EXPORT, RULES,
-    KINDS = RULES + KESVUOT_SIGNATURE_HASH + 1
+    TABLES = 0, SLICES = 9, IMAGE, ADDRESS, DATA, BOUNDED, NAME, EXPORT, VERDICT,
+    KINDS = VERDICT + RULE_COUNT + 1
 };
 
 __attribute__((section("__libfuzzer_extra_counters"))) static uint8_t counters[64 * KINDS];
@@ -1216,16 +1221,18 @@ static bool is_same(const struct kesvuot_verdict *one, const struct kesvuot_verd
     return one->rule == other->rule && one->place == other->place && one->slices == other->slices;
 }
 
+#define OR_IS(constant, name) || rule == KESVUOT_##constant
+
 static bool is_strict(uint32_t rule) {
-    return rule >= KESVUOT_FAT_STRAY_BYTE && rule <= KESVUOT_UNCLAIMED_BYTE;
+    return false STRICT_RULES(OR_IS);
 }
 
 static bool is_linked(uint32_t rule) {
-    return rule >= KESVUOT_TABLE_REPEATED && rule <= KESVUOT_COMMAND_CONTENT;
+    return false LINKED_RULES(OR_IS);
 }
 
 static bool is_sealed(uint32_t rule) {
-    return rule >= KESVUOT_SIGNATURE_MISSING && rule <= KESVUOT_SIGNATURE_HASH;
+    return false SEALED_RULES(OR_IS);
 }
 
 // The verdict is whole.
@@ -1246,7 +1253,7 @@ static void check_explanation(const uint8_t *file, size_t size, const struct kes
     struct kesvuot_explanation found;
     for (uint32_t other = 0; other < 4; other++) {
         struct kesvuot_verdict asked = *verdict;
-        asked.rule = (asked.rule + 7 * other) % (KESVUOT_SIGNATURE_HASH + 2);
+        asked.rule = (asked.rule + 7 * other) % (RULE_COUNT + 2);
         asked.place += other;
         memset(&found, UNWRITTEN, sizeof found);
         const uint32_t status = kesvuot_explain(file, size, &asked, &found);
@@ -1273,7 +1280,7 @@ static void check_sealed(const uint8_t *file, size_t size, uint32_t linked_statu
     } else {
         CHECK(is_sealed(sealed.rule));
     }
-    reach(RULES + sealed.rule, sealed.place);
+    reach(VERDICT + sealed.rule, sealed.place);
     if (status == KESVUOT_REFUSED) {
         check_explanation(file, size, &sealed);
     }
@@ -1291,7 +1298,7 @@ static void check_linked(const uint8_t *file, size_t size, uint32_t strict_statu
     } else {
         CHECK(is_linked(linked.rule));
     }
-    reach(RULES + linked.rule, linked.place);
+    reach(VERDICT + linked.rule, linked.place);
     check_sealed(file, size, status, &linked);
 }
 
@@ -1310,8 +1317,8 @@ static enum accepted check_verdicts(const uint8_t *file, size_t size, struct kes
     } else {
         CHECK(is_strict(strict.rule));
     }
-    reach(RULES + verdict->rule, verdict->place);
-    reach(RULES + strict.rule, strict.place);
+    reach(VERDICT + verdict->rule, verdict->place);
+    reach(VERDICT + strict.rule, strict.place);
     check_linked(file, size, strict_status, &strict);
     return status == KESVUOT_REFUSED ? REFUSED : strict_status == KESVUOT_OK ? ACCEPTED_STRICTLY : ACCEPTED;
 }
@@ -1385,7 +1392,7 @@ static void check_constants(void) {
     for (; kesvuot_find_rule(rule, &name) == KESVUOT_OK; rule++) {
         CHECK(name.size > 0 && name.size == strlen(name.at));
     }
-    CHECK(rule > KESVUOT_SIGNATURE_HASH && name.size == 0);
+    CHECK(rule == RULE_COUNT + 1 && name.size == 0);
     CHECK(kesvuot_find_rule(0, &name) == KESVUOT_NONE && name.size == 0);
     CHECK(kesvuot_find_rule(UINT32_MAX, &name) == KESVUOT_NONE && name.size == 0);
     for (uint32_t number = 0; number < 256; number++) {
