@@ -1,6 +1,6 @@
-// calls LIBRARY MIXED: each call with each status, null beside the length 0, tables of no rows, cursors past the end, and
-// batches of any size. LIBRARY is tests/real/library. MIXED is a universal file of a 32-bit image of 4 bytes at 64,
-// and of a header for x86_64 at 96.
+// calls LIBRARY MIXED RULES: each call with each status, null beside the length 0, tables of no rows, cursors past the
+// end, and batches of any size. LIBRARY is tests/real/library. MIXED is a universal file of a 32-bit image of 4 bytes
+// at 64, and of a header for x86_64 at 96. RULES is how many rules there are.
 #include "support.h"
 #include <stdlib.h>
 #include <string.h>
@@ -35,7 +35,7 @@ static void try_no_rule(uint32_t rule) {
     CHECK(kesvuot_rule_name(rule) == NULL);
 }
 
-static void try_version_and_rules(void) {
+static void try_version_and_rules(unsigned long rules) {
     struct kesvuot_text name;
     CHECK(kesvuot_version() == KESVUOT_VERSION && kesvuot_is_compatible());
     uint32_t rule = KESVUOT_MAGIC;
@@ -43,7 +43,7 @@ static void try_version_and_rules(void) {
         CHECK(name.size == strlen(name.at) && name.size > 0);
         CHECK(kesvuot_rule_name(rule) == name.at);
     }
-    CHECK(rule > KESVUOT_SIGNATURE_HASH);
+    CHECK(rule == rules + 1 && rule == end_of_rules());
     try_no_rule(rule);
     try_no_rule(0);
     try_no_rule(UINT32_MAX);
@@ -244,7 +244,7 @@ static void try_explanations(void) {
     CHECK(found.first.start + found.first.size == library.size && found.second.kind == KESVUOT_PART_FILE);
     CHECK(found.value == library.size && found.limit == cut && found.slice == 1);
     CHECK(found.command == KESVUOT_NO_INDEX && found.section == KESVUOT_NO_INDEX && found.symbol == KESVUOT_NO_INDEX);
-    const struct kesvuot_verdict none[] = {{.rule = 0}, {.rule = KESVUOT_SIGNATURE_HASH + 1}, {.rule = UINT32_MAX},
+    const struct kesvuot_verdict none[] = {{.rule = 0}, {.rule = end_of_rules()}, {.rule = UINT32_MAX},
         {.rule = KESVUOT_MAGIC, .place = 1}, {.rule = KESVUOT_SEGMENT_FILE, .place = UINT64_MAX}};
     for (size_t index = 0; index < sizeof none / sizeof *none; index++) {
         memset(&found, UNWRITTEN, sizeof found);
@@ -1280,12 +1280,12 @@ static void try_symbols(void) {
 }
 
 int main(int count, char **words) {
-    if (count != 3) {
-        stop("usage", "calls LIBRARY MIXED");
+    if (count != 4) {
+        stop("usage", "calls LIBRARY MIXED RULES");
     }
     library = read_file(words[1], side_or_block(AT_END));
     mixed = read_file(words[2], side_or_block(AT_END));
-    try_version_and_rules();
+    try_version_and_rules(strtoul(words[3], NULL, 10));
     try_names_of_numbers();
     try_architectures();
     try_verdicts();

@@ -10,6 +10,7 @@ enum { MOST_ROWS = 9 };
 
 static struct file file;
 static uint64_t seed;
+static uint32_t rules_end;
 static unsigned long calls, handed_out, opened, explained;
 
 // xorshift64
@@ -196,7 +197,7 @@ static void take_explanation(size_t size) {
         kesvuot_verify_sealed(file.bytes, size, &verdict);
     }
     if (!verdict.rule || draw_below(4) == 0) {
-        verdict.rule = (uint32_t)(draw_below(8) ? draw_below(KESVUOT_SIGNATURE_HASH + 2) : draw());
+        verdict.rule = (uint32_t)(draw_below(8) ? draw_below(rules_end + 1) : draw());
         verdict.place = lie(draw_below(2) ? verdict.place : 4 * draw_below(0x100));
     }
     verdict.slices = draw();
@@ -343,6 +344,7 @@ int main(int count, char **words) {
         stop("usage", "lies SEED ROUNDS FILE..");
     }
     seed = strtoull(words[1], NULL, 10) * 2 + 1;
+    rules_end = end_of_rules();
     for (int index = 3; index < count; index++) {
         file = read_file(words[index], index % 2 ? AT_END : AT_START);
         try_file(strtol(words[2], NULL, 10));

@@ -116,8 +116,9 @@ static void try_layout(struct file file) {
 static void try_explanations(struct file file) {
     struct kesvuot_verdict verdict = {0};
     struct kesvuot_explanation found;
+    const uint32_t end = end_of_rules();
     asked = 0;
-    for (verdict.rule = KESVUOT_MAGIC; verdict.rule <= KESVUOT_SIGNATURE_HASH; verdict.rule++) {
+    for (verdict.rule = KESVUOT_MAGIC; verdict.rule < end; verdict.rule++) {
         for (verdict.place = 0; verdict.place < file.size && verdict.place < 1024; verdict.place += 4) {
             kesvuot_explain(file.bytes, file.size, &verdict, &found);
         }

@@ -16,6 +16,7 @@ static uint8_t *stack;
 static struct file file;
 static struct kesvuot_image image;
 static char text[1 << 16];
+static uint32_t rules_end;
 
 static void verify(void) {
     struct kesvuot_verdict verdict;
@@ -45,7 +46,7 @@ static void layout(void) {
 // Each rule, at the places where the first structures are.
 static void explain(void) {
     struct kesvuot_explanation found;
-    for (uint32_t rule = KESVUOT_MAGIC; rule <= KESVUOT_SIGNATURE_HASH; rule++) {
+    for (uint32_t rule = KESVUOT_MAGIC; rule < rules_end; rule++) {
         for (uint64_t place = 0; place < 512; place += 8) {
             const struct kesvuot_verdict verdict = {.place = place, .rule = rule};
             kesvuot_explain(file.bytes, file.size, &verdict, &found);
@@ -123,6 +124,7 @@ int main(int count, char **words) {
     if (stack == MAP_FAILED) {
         stop("mmap", "no memory");
     }
+    rules_end = end_of_rules();
     for (int index = 2; index < count; index++) {
         measure(words[index]);
     }

@@ -123,6 +123,14 @@ void print_name(const struct file *file, struct kesvuot_span name) {
     }
 }
 
+uint32_t end_of_rules(void) {
+    uint32_t rule = 1;
+    while (kesvuot_rule_name(rule)) {
+        rule++;
+    }
+    return rule;
+}
+
 enum { BATCH = 16, LC_FUNCTION_STARTS = 0x26 };
 
 #define FIRST_BATCH(rows, type)                                                                                        \

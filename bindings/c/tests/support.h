@@ -48,6 +48,9 @@ const uint8_t *bytes_at(const struct file *file, struct kesvuot_span span);
 
 void print_name(const struct file *file, struct kesvuot_span name);
 
+// The number after that of the last rule. The first rule has the number 1, and no number between is left out.
+uint32_t end_of_rules(void);
+
 // A call on an image, by its name without `kesvuot_`. For a table it asks for the first 16 rows, and returns how many
 // there are. `symbol_name` asks for the names of these symbols, and returns how many have one. `read_names` asks for
 // all of them at once, and returns how many it gets. `find_data` asks for the data of LC_FUNCTION_STARTS, `find_table`
