@@ -403,7 +403,7 @@ struct kesvuot_image {
     uint32_t cputype;          /* any number. In a universal file the table has the same, and so for cpusubtype */
     uint32_t cpusubtype;       /* without the high byte, CPU_SUBTYPE_MASK. Any number */
     uint32_t capabilities;     /* that byte, such as the version of arm64e's ABI. Any number below 256 */
-    uint32_t filetype;         /* one that RULES.md lists: MH_EXECUTE, MH_DYLIB or MH_BUNDLE */
+    uint32_t filetype;         /* one that RULES.md lists: one of KESVUOT_MH_.. */
     uint32_t flags;            /* any number */
     uint32_t has;              /* KESVUOT_HAS_.. */
     uint32_t groups[6];        /* HAS_DYSYMTAB: ilocalsym, nlocalsym, iextdefsym, nextdefsym, iundefsym, nundefsym. An
