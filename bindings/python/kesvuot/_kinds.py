@@ -5,6 +5,7 @@ from __future__ import annotations
 
 from typing import Optional, Union
 
+from ._names import FILETYPES, JUDGED_FILETYPES
 from ._reading import MACH_O_MAGICS, Contents
 
 # The bytes with which files of other kinds begin.
@@ -15,11 +16,6 @@ BEGINNINGS = {
     b"BC\xc0\xde": "LLVM bitcode", b"\xde\xc0\x17\x0b": "LLVM bitcode", b"dyld_v1": "shared cache",
     b"--- !tapi-tbd": "text stub of a library", b"PK\x03\x04": "zip archive", b"#!": "script"}
 
-# loader.h: those filetypes of a 64-bit image that are not judged.
-FILETYPES = {
-    1: "object file", 3: "fixed library", 4: "core file", 5: "preloaded program", 7: "dynamic linker",
-    9: "stub of a library", 10: "debugging data", 11: "kernel extension", 12: "set of kernel extensions"}
-
 # The least major version of a Java class, and the tags that an entry of its constant pool begins with.
 JAVA_VERSION, JAVA_TAGS = 45, frozenset({1, *range(3, 13), *range(15, 21)})
 
@@ -29,7 +25,8 @@ def other_kind(rule: str, place: int, data: Contents) -> Optional[str]:
     if rule == "magic":
         return _kind_of_beginning(data[:16]) or (None if data[:4] in MACH_O_MAGICS else "not Mach-O")
     if rule == "file-type":
-        return FILETYPES.get(int.from_bytes(data[place:place + 4], "little"))
+        filetype = int.from_bytes(data[place:place + 4], "little")
+        return None if filetype in JUDGED_FILETYPES else FILETYPES.get(filetype)
     if rule.startswith("fat-") and _is_java(data):
         return "Java class"
     if rule == "fat-slice-magic":

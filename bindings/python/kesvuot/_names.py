@@ -10,8 +10,12 @@ PLATFORMS = {
     1: "macOS", 2: "iOS", 3: "tvOS", 4: "watchOS", 5: "bridgeOS", 6: "Mac Catalyst", 7: "iOS Simulator",
     8: "tvOS Simulator", 9: "watchOS Simulator", 10: "DriverKit", 11: "visionOS", 12: "visionOS Simulator"}
 
-# MH_*: those filetypes that are judged.
-FILETYPES = {2: "program", 6: "library", 8: "bundle"}
+# The filetypes, and the numbers of those that are judged.
+FILETYPES = {
+    1: "object file", 2: "program", 3: "fixed library", 4: "core file", 5: "preloaded program", 6: "library",
+    7: "dynamic linker", 8: "bundle", 9: "stub of a library", 10: "debugging data", 11: "kernel extension",
+    12: "set of kernel extensions"}
+JUDGED_FILETYPES = [number for name, number in vars(constants).items() if name.startswith("MH_")]
 
 # What an image has to do with a library that it names.
 LIBRARIES = {

@@ -4,7 +4,7 @@ from __future__ import annotations
 
 from typing import Callable, Collection, Dict, NamedTuple, Optional
 
-from . import _kinds, _names
+from . import _names
 from ._case import Case
 from ._command_stories import command_content, thread
 from ._explanation import explain
@@ -45,7 +45,7 @@ def _are(number: int, word: str) -> str:
 
 
 def _filetype(number: int) -> str:
-    name = _names.FILETYPES.get(number) or _kinds.FILETYPES.get(number)
+    name = _names.FILETYPES.get(number)
     return f"{number}{f' ({name})' if name else ''}"
 
 
@@ -116,7 +116,7 @@ def _arch_mismatch(it: Teller) -> Story:
 
 
 def _file_type(it: Teller) -> Story:
-    judged = ", ".join(map(_filetype, _names.FILETYPES))
+    judged = ", ".join(map(_filetype, _names.JUDGED_FILETYPES))
     return it.story(f"the filetype is {_filetype(it.value)}. Those that are judged are {judged}.", "filetype")
 
 
