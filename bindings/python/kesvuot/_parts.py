@@ -58,13 +58,20 @@ TABLES_OF_STRUCTURES: Dict[str, Tuple[TableForm, ...]] = {
     "encryption_info_command_64": (TableForm("encrypted range", "cryptoff", "cryptsize"),),
     "note_command": (TableForm("note", "offset", "size"),),
     "twolevel_hints_command": (TableForm("two-level hints", "offset", "nhints", 4),)}
-LINKEDIT_DATA = {
-    0x1D: "code signature", 0x1E: "segment split info", 0x26: "function starts", 0x29: "data in code",
-    0x2B: "code signing requirements", 0x2E: "optimization hints", 0x36: "atom info", 0x37: "function variants",
-    0x38: "function variant fixups", 0x8000_0033: "exports trie", 0x8000_0034: "chained fixups"}
+# The data of a linkedit_data_command has the name of its command in words, as LC_DYLD_EXPORTS_TRIE an exports trie. The
+# names of these have other words.
+LINKEDIT_DATA = {0x2B: "code signing requirements", 0x2E: "optimization hints"}
+
+
+def _tables_of(cmd: int, structure: str) -> Tuple[TableForm, ...]:
+    if structure != "linkedit_data_command":
+        return TABLES_OF_STRUCTURES.get(structure, ())
+    words = re.sub("^LC_(DYLD_)?", "", command_name(cmd)).replace("_", " ").lower()
+    return (TableForm(LINKEDIT_DATA.get(cmd, words), "dataoff", "datasize"),)
+
+
 TABLES: Dict[int, Tuple[TableForm, ...]] = {
-    **{cmd: TABLES_OF_STRUCTURES.get(structure, ()) for cmd, structure in (*LISTED.items(), *UNLISTED.items())},
-    **{cmd: (TableForm(name, "dataoff", "datasize"),) for cmd, name in LINKEDIT_DATA.items()}}
+    cmd: _tables_of(cmd, structure) for cmd, structure in (*LISTED.items(), *UNLISTED.items())}
 
 # For the listed commands with records: where their count is, and their size.
 RECORDS = {LC_SEGMENT_64: (64, SECTION.size), LC_BUILD_VERSION: (20, 8)}
