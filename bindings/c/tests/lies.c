@@ -6,7 +6,7 @@
 #include <stdlib.h>
 #include <string.h>
 
-enum { MOST_ROWS = 9 };
+enum { MOST_ROWS = 9, MOST_COMMANDS = 32, LC_FUNCTION_STARTS = 0x26 };
 
 static struct file file;
 static uint64_t seed;
@@ -285,8 +285,20 @@ static void take_node(const struct kesvuot_image *image, size_t size) {
     calls++;
 }
 
+// Asks for the data of one of the first commands of the image, and of any command.
+static void take_data(const struct kesvuot_image *image, size_t size) {
+    struct kesvuot_command rows[MOST_COMMANDS];
+    struct kesvuot_cursor cursor = {0};
+    struct kesvuot_span data;
+    const size_t count = kesvuot_read_commands(file.bytes, size, image, &cursor, rows, MOST_COMMANDS);
+    const uint32_t cmds[] = {count ? rows[draw_below(count)].cmd : 0, (uint32_t)lie(LC_FUNCTION_STARTS)};
+    for (size_t index = 0; index < sizeof cmds / sizeof *cmds; index++) {
+        kesvuot_find_data(file.bytes, size, image, cmds[index], &data);
+        take(data, size);
+    }
+}
+
 static void take_all(const struct kesvuot_image *image, size_t size) {
-    static const uint32_t cmds[] = {0x1d, 0x1e, 0x26, 0x29, 0x2b, 0x2e, 0x80000033, 0x80000034, 0x2, 0x19};
     struct kesvuot_span bytes;
     take_tables(image, size);
     take_names(image, size);
@@ -297,8 +309,7 @@ static void take_all(const struct kesvuot_image *image, size_t size) {
     take_symbols(image, size);
     take_export(image, size);
     take_node(image, size);
-    kesvuot_find_data(file.bytes, size, image, cmds[draw_below(sizeof cmds / sizeof *cmds)], &bytes);
-    take(bytes, size);
+    take_data(image, size);
     const uint64_t address = draw_below(2) ? lie(image->base) : image->base + draw_below(0x20000);
     const uint32_t status = kesvuot_find_address(file.bytes, size, image, address, &bytes);
     CHECK(status == KESVUOT_OK ? bytes.size > 0 : bytes.size == 0);
