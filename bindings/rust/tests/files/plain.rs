@@ -31,8 +31,25 @@ const LIBRARIES: [u32; 6] = [0xc, 0xd, 0x20, 0x8000_0018, 0x8000_001f, 0x8000_00
 /// Other commands with a name: `LC_LOAD_DYLINKER`, `LC_ID_DYLINKER`, `LC_DYLD_ENVIRONMENT`,
 /// `LC_RPATH`.
 const NAMED: [u32; 4] = [0xe, 0xf, 0x27, 0x8000_001c];
-/// `linkedit_data_command`: `LC_CODE_SIGNATURE` and its kin.
-const LINKEDIT: [u32; 8] = [0x1d, 0x1e, 0x26, 0x29, 0x2b, 0x2e, 0x8000_0033, 0x8000_0034];
+/// Bit of the commands that a loader must know.
+const LC_REQ_DYLD: u32 = 0x8000_0000;
+const RULES: &str = include_str!(concat!(env!("CARGO_MANIFEST_DIR"), "/../../docs/RULES.md"));
+
+thread_local! {
+    /// The commands that RULES.md lists as a `linkedit_data_command`.
+    static LINKEDIT: Vec<u32> = listed("linkedit_data_command");
+}
+
+/// The listed commands of a structure, by the table of RULES.md: a name, `cmd` and the structure.
+fn listed(structure: &str) -> Vec<u32> {
+    let rows = RULES.lines().filter_map(|line| {
+        let (_, rest) = line.strip_prefix("| `LC_")?.split_once("` | 0x")?;
+        let (cmd, rest) = rest.split_once(" | `")?;
+        rest.strip_prefix(structure)?.strip_prefix("` | ")?;
+        Some(u32::from_str_radix(cmd, 16).unwrap())
+    });
+    rows.collect()
+}
 
 fn half(bytes: &[u8], at: usize) -> u16 {
     u16::from_le_bytes(bytes[at..at + 2].try_into().unwrap())
@@ -431,21 +448,14 @@ fn compare_indirects(image: &Image, commands: &[Plain]) {
 }
 
 fn compare_linkedit(image: &Image, commands: &[Plain]) {
-    for cmd in LINKEDIT {
+    let listed = LINKEDIT.with(Vec::clone);
+    assert!(listed.contains(&LC_CODE_SIGNATURE));
+    let cmds = (0..0x40).flat_map(|cmd| [cmd, cmd | LC_REQ_DYLD]);
+    for cmd in cmds.chain([u32::MAX]) {
         let data = first_of(commands, cmd)
+            .filter(|_| listed.contains(&cmd))
             .map(|bytes| part(image.bytes(), word(bytes, 8).into(), word(bytes, 12).into()));
-        assert_eq!(image.linkedit(cmd), data);
-    }
-    for cmd in [
-        0,
-        LC_SYMTAB,
-        LC_SEGMENT_64,
-        LC_UUID,
-        LC_BUILD_VERSION,
-        LC_MAIN,
-        u32::MAX,
-    ] {
-        assert_eq!(image.linkedit(cmd), None);
+        assert_eq!(image.linkedit(cmd), data, "{cmd:#x}");
     }
 }
 
