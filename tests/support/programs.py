@@ -3,6 +3,7 @@
 from __future__ import annotations
 
 import os
+import re
 from pathlib import Path
 
 from .calling import TOP, Answer, call, shell
@@ -13,6 +14,7 @@ PROGRAMS = {"macho-check": MACHO_CHECK,
             "macho-strict": TOP / "crates/macho_strict_check/out/macho_strict_check",
             "macho-linked": TOP / "crates/macho_linked_check/out/macho_linked_check",
             "macho-sealed": TOP / "crates/macho_sealed_check/out/macho_sealed_check"}
+HEADER = TOP / "bindings/c/kesvuot.h"
 MACHO_TRIALS = TOP / "crates/macho_trials/out/macho_trials"
 REAL = TOP / "tests/real"
 # The file of the stored run of macho-check, and its layout.
@@ -44,6 +46,11 @@ def why_no_library() -> str:
         return "" if os.access(folder / "libkesvuot.a", os.R_OK) else f"there is no libkesvuot.a in {folder}"
     why = why_outdated("libkesvuot")
     return f"libkesvuot: {why}: make lib builds it" if why else ""
+
+
+def calls_of_header() -> list[str]:
+    """The calls that the header declares, in order."""
+    return sorted(re.findall(r"^[a-z0-9_]* (kesvuot_[a-z_]*)\(", HEADER.read_text(encoding="utf-8"), re.MULTILINE))
 
 
 def is_older(program: Path) -> bool:
