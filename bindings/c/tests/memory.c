@@ -130,7 +130,7 @@ static void try_views(struct file file) {
     struct kesvuot_image image;
     asked = 0;
     for (uint64_t slice = 0; kesvuot_read_image(file.bytes, file.size, slice, &image) == KESVUOT_OK; slice++) {
-        for (size_t index = 0; index < VIEWS; index++) {
+        for (size_t index = 0; index < view_count; index++) {
             views[index].call(&file, &image);
         }
     }

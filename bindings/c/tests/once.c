@@ -45,7 +45,7 @@ static void print_of_image(const char *name, const struct file *file) {
     if (kesvuot_read_image(file->bytes, file->size, 0, &image) != KESVUOT_OK) {
         stop("kesvuot_read_image", "there is none");
     }
-    for (size_t index = 0; index < VIEWS; index++) {
+    for (size_t index = 0; index < view_count; index++) {
         if (!strcmp(name, views[index].name)) {
             printf("%zu\n", views[index].call(file, &image));
             return;

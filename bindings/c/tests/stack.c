@@ -68,10 +68,10 @@ static const struct {
              {"layout", layout},
              {"explain", explain},
              {"read_image", first_image}};
-enum { CALLS = sizeof calls / sizeof *calls, ALL = CALLS + VIEWS };
+enum { CALLS = sizeof calls / sizeof *calls };
 
 // How many bytes each takes at most: the calls, and then the views of the image, which `first_image` has set.
-static size_t taken[ALL];
+static size_t *taken, all;
 
 static void *run(void *given) {
     const size_t index = *(const size_t *)given;
@@ -107,7 +107,7 @@ static size_t used_by(void *(*start)(void *), void *given) {
 static void measure(const char *path) {
     file = read_file(path, AT_END);
     const size_t base = used_by(run_none, NULL);
-    for (size_t index = 0; index < ALL; index++) {
+    for (size_t index = 0; index < all; index++) {
         const size_t used = used_by(run, &index);
         if (used > base && used - base > taken[index]) {
             taken[index] = used - base;
@@ -121,20 +121,23 @@ int main(int count, char **words) {
         stop("usage", "stack MOST FILE..");
     }
     stack = mmap(NULL, STACK_SIZE, PROT_READ | PROT_WRITE, MAP_PRIVATE | MAP_ANONYMOUS, -1, 0);
-    if (stack == MAP_FAILED) {
-        stop("mmap", "no memory");
+    all = CALLS + view_count;
+    taken = calloc(all, sizeof *taken);
+    if (stack == MAP_FAILED || !taken) {
+        stop("mmap or calloc", "no memory");
     }
     rules_end = end_of_rules();
     for (int index = 2; index < count; index++) {
         measure(words[index]);
     }
     const size_t most = strtoul(words[1], NULL, 10);
-    for (size_t index = 0; index < ALL; index++) {
+    for (size_t index = 0; index < all; index++) {
         const char *name = index < CALLS ? calls[index].name : views[index - CALLS].name;
         printf("%s: %zu bytes\n", name, taken[index]);
         check(taken[index] <= most, name, __LINE__);
     }
     // A call may take no more than the thread itself does, but not a verdict.
     CHECK(taken[0] > 0);
+    free(taken);
     return print_counts("stack");
 }

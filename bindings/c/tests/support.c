@@ -133,6 +133,7 @@ uint32_t end_of_rules(void) {
 
 enum { BATCH = 16, LC_FUNCTION_STARTS = 0x26 };
 
+// How many of the first rows of a table there are.
 #define FIRST_BATCH(rows, type)                                                                                        \
     static size_t read_##rows(const struct file *file, const struct kesvuot_image *image) {                            \
         static type batch[BATCH];                                                                                      \
@@ -166,6 +167,7 @@ FIRST_BATCH(blobs, struct kesvuot_blob)
 OF_BLOBS(read_code_directory, struct kesvuot_code_directory)
 OF_BLOBS(read_cdhash, struct kesvuot_cdhash)
 
+// How many of the first symbols have a name.
 static size_t symbol_name(const struct file *file, const struct kesvuot_image *image) {
     static struct kesvuot_symbol rows[BATCH];
     struct kesvuot_cursor cursor = {0};
@@ -178,6 +180,7 @@ static size_t symbol_name(const struct file *file, const struct kesvuot_image *i
     return named;
 }
 
+// How many names of the first symbols the library gives at once.
 static size_t read_names(const struct file *file, const struct kesvuot_image *image) {
     static struct kesvuot_symbol rows[BATCH];
     static struct kesvuot_span names[BATCH];
@@ -186,11 +189,13 @@ static size_t read_names(const struct file *file, const struct kesvuot_image *im
     return kesvuot_read_names(file->bytes, file->size, image, rows, count, names, BATCH);
 }
 
+// Whether there is data of LC_FUNCTION_STARTS.
 static size_t find_data(const struct file *file, const struct kesvuot_image *image) {
     struct kesvuot_span data;
     return kesvuot_find_data(file->bytes, file->size, image, LC_FUNCTION_STARTS, &data) == KESVUOT_OK;
 }
 
+// How many of the first relocations of the first section there are.
 static size_t read_relocations(const struct file *file, const struct kesvuot_image *image) {
     static struct kesvuot_relocation rows[BATCH];
     struct kesvuot_section section = {.nreloc = 0};
@@ -200,6 +205,7 @@ static size_t read_relocations(const struct file *file, const struct kesvuot_ima
                                     BATCH);
 }
 
+// Whether there are strings.
 static size_t find_table(const struct file *file, const struct kesvuot_image *image) {
     struct kesvuot_span bytes;
     return kesvuot_find_table(file->bytes, file->size, image, KESVUOT_TABLE_STRINGS, &bytes) == KESVUOT_OK;
@@ -215,6 +221,7 @@ static size_t find_thread_entry(const struct file *file, const struct kesvuot_im
     return kesvuot_find_thread_entry(file->bytes, file->size, image, &entry) == KESVUOT_OK;
 }
 
+// Whether the file has bytes at the base.
 static size_t find_address(const struct file *file, const struct kesvuot_image *image) {
     struct kesvuot_span bytes;
     return kesvuot_find_address(file->bytes, file->size, image, image->base, &bytes) == KESVUOT_OK;
@@ -224,10 +231,12 @@ enum { MOST_SYMBOLS = 1 << 20 };
 
 static uint32_t symbol_index[MOST_SYMBOLS];
 
+// How many symbols have an address.
 static size_t index_symbols(const struct file *file, const struct kesvuot_image *image) {
     return kesvuot_index_symbols(file->bytes, file->size, image, symbol_index, MOST_SYMBOLS);
 }
 
+// Where in the index the symbol for the greatest address is.
 static size_t find_symbol(const struct file *file, const struct kesvuot_image *image) {
     struct kesvuot_symbol symbol;
     size_t at = 0;
@@ -237,6 +246,7 @@ static size_t find_symbol(const struct file *file, const struct kesvuot_image *i
     return at;
 }
 
+// A name that no symbol has.
 static const char NO_SYMBOL[] = "_no symbol";
 
 static size_t find_name(const struct file *file, const struct kesvuot_image *image) {
@@ -256,7 +266,7 @@ static size_t find_export_trie(const struct file *file, const struct kesvuot_ima
     return kesvuot_find_export_trie(file->bytes, file->size, image, &trie) == KESVUOT_OK;
 }
 
-// The nodes that the first edges lead to, from the root on. They are no more than the trie has bytes.
+// How many nodes the first edges lead to, from the root on. They are no more than the trie has bytes.
 static size_t read_export_node(const struct file *file, const struct kesvuot_image *image) {
     struct kesvuot_export_edge edge = {.child = 0};
     struct kesvuot_export_node node;
@@ -271,7 +281,7 @@ static size_t read_export_node(const struct file *file, const struct kesvuot_ima
     return nodes;
 }
 
-// The edges of the root.
+// How many of the first edges of the root there are.
 static size_t read_export_edges(const struct file *file, const struct kesvuot_image *image) {
     static struct kesvuot_export_edge rows[BATCH];
     struct kesvuot_span trie;
@@ -281,7 +291,7 @@ static size_t read_export_edges(const struct file *file, const struct kesvuot_im
     return kesvuot_read_export_edges(file->bytes, file->size, &trie, &node.edges, rows, BATCH);
 }
 
-const struct view views[VIEWS] = {
+const struct view views[] = {
     {"read_commands", read_commands}, {"read_segments", read_segments}, {"read_sections", read_sections},
     {"read_libraries", read_libraries}, {"read_builds", read_builds}, {"read_symbols", read_symbols},
     {"read_indirects", read_indirects}, {"symbol_name", symbol_name}, {"read_names", read_names},
@@ -292,3 +302,4 @@ const struct view views[VIEWS] = {
     {"read_export_node", read_export_node}, {"read_export_edges", read_export_edges}, {"read_blobs", read_blobs},
     {"read_code_directory", read_code_directory}, {"read_cdhash", read_cdhash}, {"find_thread_entry", find_thread_entry},
 };
+const size_t view_count = sizeof views / sizeof *views;

@@ -51,21 +51,14 @@ void print_name(const struct file *file, struct kesvuot_span name);
 // The number after that of the last rule. The first rule has the number 1, and no number between is left out.
 uint32_t end_of_rules(void);
 
-// A call on an image, by its name without `kesvuot_`. For a table it asks for the first 16 rows, and returns how many
-// there are. `symbol_name` asks for the names of these symbols, and returns how many have one. `read_names` asks for
-// all of them at once, and returns how many it gets. `find_data` asks for the data of LC_FUNCTION_STARTS, `find_table`
-// for the strings, `find_address` for the bytes at the base, and `find_name` and `find_export` for a name that no symbol
-// has: they return whether there are any. So do `find_source_version`, `find_thread_entry` and `find_export_trie`.
-// `read_export_node` goes from the root along the first edges, and returns how many nodes there are, and
-// `read_export_edges` is of those of the root. `read_code_directory` returns how many of the first 16 blobs are code
-// directories, and `read_cdhash` how many of them have a hash. `read_relocations` asks for those of the first section.
-// `index_symbols` returns how many symbols have an address, and `find_symbol` also looks up the greatest address.
+// A call on an image, by its name without `kesvuot_`. It returns how many rows or answers the library gives of those that
+// support.c asks for, or whether there is one.
 struct view {
     const char *name;
     size_t (*call)(const struct file *file, const struct kesvuot_image *image);
 };
 
-enum { VIEWS = 27 };
-extern const struct view views[VIEWS];
+extern const struct view views[];
+extern const size_t view_count;
 
 #endif
