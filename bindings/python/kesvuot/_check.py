@@ -8,7 +8,7 @@ from functools import partial
 from typing import Any, Callable, Counter, Dict, Iterator, List, NamedTuple, Optional, Tuple
 
 from ._files import File, Refused
-from ._kinds import other_kind
+from ._kinds import is_told, other_kind
 from ._pool import map_in_processes
 from ._profiles import DEFAULT, verify
 from ._reading import Contents, NotMachO, read_found, read_given
@@ -142,7 +142,7 @@ def judge(target: Target, choice: Choice) -> Outcome:
         return Outcome(path, ACCEPTED, size, file.slice_count, extra=choice.extra and choice.extra(file))
     except Refused as refused:
         kind = other_kind(refused.rule, refused.place, data)
-        word = SKIPPED if kind and choice.skips_other_kinds else REFUSED
+        word = SKIPPED if choice.skips_other_kinds and is_told(kind) else REFUSED
         return Outcome(path, word, size, rule=refused.rule, place=refused.place, kind=kind,
                        extra=choice.of_refused and choice.of_refused(data, refused))
     except NotMachO:

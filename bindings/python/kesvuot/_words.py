@@ -181,10 +181,9 @@ def _count(words: argparse.Namespace, choice: Choice) -> int:
 
 
 def _positive(word: str) -> int:
-    number = int(word)
-    if number < 1:
-        raise ValueError
-    return number
+    if not (word.isascii() and word.isdecimal() and int(word) > 0):
+        raise argparse.ArgumentTypeError(f"{word!r} is no whole number from 1 on")
+    return int(word)
 
 
 def _add_command(commands: Any, name: str, run: Any, summary: str, description: str) -> argparse.ArgumentParser:
