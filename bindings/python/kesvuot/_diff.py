@@ -162,10 +162,10 @@ def _facts_of_segments(image: Image) -> Iterator[Fact]:
     for segment in image.segments:
         name = plain(segment.name)
         yield f"segment {name}", (
-            f"addresses {segment.vmaddr:#x} size {segment.vmsize:#x}, file {segment.fileoff:#x} size "
+            f"addresses {segment.vmaddr:#x} size {segment.vmsize:#x}, in the slice {segment.fileoff:#x} size "
             f"{segment.filesize:#x}, {protection_text(segment.initprot)} of {protection_text(segment.maxprot)}")
         for section in image.sections_of(segment):
-            source = "zeros" if section.zero_fill else f"file {section.offset:#x}"
+            source = "zeros" if section.zero_fill else f"in the slice {section.offset:#x}"
             yield f"section {name},{plain(section.name)}", (
                 f"addresses {section.addr:#x} size {section.size:#x}, {source}, align {section.align}, flags "
                 f"{section.flags:#x}, relocations {section.nreloc} at {section.reloff:#x}, reserved "

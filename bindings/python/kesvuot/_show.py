@@ -98,7 +98,7 @@ def _properties(image: Image) -> Iterator[Cells]:
 
 
 def _segments(image: Image) -> Iterator[Cells]:
-    yield "segment", "address", "size", "in the file", "size there", "protection"
+    yield "segment", "address", "size", "in the slice", "size there", "protection"
     for segment in image.segments:
         source = (f"{segment.fileoff:#x}", size_text(segment.filesize)) if segment.filesize else ("nothing", "")
         yield (plain(segment.name), f"{segment.vmaddr:#x}", size_text(segment.vmsize), *source,
