@@ -2,11 +2,11 @@
 
 from __future__ import annotations
 
-from typing import Any, Dict, Iterator, List, NamedTuple
+from typing import Any, Dict, Iterator, List, NamedTuple, Optional, Tuple
 
 from ._files import File, Image, Slice
-from ._names import HASH_TYPES
-from ._rows import Library
+from ._names import hash_type_name
+from ._rows import CodeDirectory, Library
 from .constants import CS_CDHASH_LEN, CSSLOT_ALTERNATE_CODEDIRECTORIES, CSSLOT_CODEDIRECTORY
 
 # The slots of code directories.
@@ -42,11 +42,41 @@ class CdHash(NamedTuple):
 
 def cdhashes_of(image: Image) -> Iterator[CdHash]:
     """Those of the code directories, in the order of the index, as far as the types of their hashes are known."""
+    for slot, directory in _directories_of(image):
+        digest = directory.digest()
+        if digest:
+            yield CdHash(slot, hash_type_name(directory.hash_type), digest[:CS_CDHASH_LEN].hex(), digest.hex())
+
+
+class Signature(NamedTuple):
+    """What a code directory says: the slot of its blob, its identifier and its team, each None if there is none, its
+    flags, and the word for the type of its hashes."""
+
+    slot: int
+    identifier: Optional[str]
+    team: Optional[str]
+    flags: int
+    hash_type: str
+
+
+def signature_of(image: Image) -> Optional[Signature]:
+    """That of the main code directory, or if it cannot be read of the first that can. None if there is no such one: the
+    image has no signature, or one that is malformed."""
+    first = next(_directories_of(image), None)
+    main = next((found for found in _directories_of(image) if found[0] == CSSLOT_CODEDIRECTORY), first)
+    if main is None:
+        return None
+    slot, directory = main
+    return Signature(slot, plain(directory.identifier) or None, plain(directory.team) or None, directory.flags,
+                     hash_type_name(directory.hash_type))
+
+
+def _directories_of(image: Image) -> Iterator[Tuple[int, CodeDirectory]]:
+    """The code directories that can be read, each with the slot of its blob, in the order of the index."""
     for blob in image.blobs():
         directory = blob.code_directory() if blob.slot in DIRECTORY_SLOTS else None
-        digest = directory and directory.digest()
-        if directory and digest:
-            yield CdHash(blob.slot, HASH_TYPES[directory.hash_type], digest[:CS_CDHASH_LEN].hex(), digest.hex())
+        if directory:
+            yield blob.slot, directory
 
 
 def _slice_object(part: Slice) -> Dict[str, Any]:
@@ -75,7 +105,9 @@ def layout_objects(file: File) -> List[Dict[str, Any]]:
 
 
 def _tables(image: Image) -> Dict[str, Any]:
-    return {"thread_entry": image.thread_entry,
-            "cdhashes": [cdhash._asdict() for cdhash in cdhashes_of(image)], "symtab": image.symtab and image.symtab._asdict(),
+    signature = signature_of(image)
+    return {"thread_entry": image.thread_entry, "signature": signature and signature._asdict(),
+            "cdhashes": [cdhash._asdict() for cdhash in cdhashes_of(image)],
+            "symtab": image.symtab and image.symtab._asdict(),
             "dysymtab": image.dysymtab and image.dysymtab._asdict(),
             "commands": [{**_row_object(command), "size": len(command.bytes)} for command in image.commands]}

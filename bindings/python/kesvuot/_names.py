@@ -57,6 +57,10 @@ def platform_name(number: int) -> str:
     return PLATFORMS.get(number, f"platform {number}")
 
 
+def hash_type_name(number: int) -> str:
+    return HASH_TYPES.get(number, f"hash type {number}")
+
+
 def version_text(number: int) -> str:
     """A version of 16, 8 and 8 bits."""
     return f"{number >> 16}.{number >> 8 & 0xFF}.{number & 0xFF}"

@@ -8,7 +8,7 @@ from typing import Any, Callable, Dict, Iterator, List, Tuple
 
 from ._check import ACCEPTED, NO_VERDICT, Choice, Outcome, Target, judge
 from ._files import File, Image, Slice
-from ._layout import cdhashes_of, layout_objects, libraries_of, plain
+from ._layout import Signature, cdhashes_of, layout_objects, libraries_of, plain, signature_of
 from ._names import (
     FILETYPES, LIBRARIES, count_text, platform_name, protection_text, size_text,
     version_text)
@@ -93,8 +93,17 @@ def _properties(image: Image) -> Iterator[Cells]:
         yield "symbols", str(image.symtab.nsyms)
     entry = image.thread_entry if image.entry is None else image.entry
     yield "entry", "none" if entry is None else f"{entry:#x}"
+    signature = signature_of(image)
+    yield "signature", _signature_text(signature) if signature else "none"
     for cdhash in cdhashes_of(image):
         yield "cdhash", f"{cdhash.hash_type} {cdhash.cdhash}"
+
+
+def _signature_text(signature: Signature) -> str:
+    """The quotes keep a name apart from what follows it: `plain` leaves none in a name."""
+    identifier = f'"{signature.identifier}"' if signature.identifier else "no identifier"
+    team = f', team "{signature.team}"' if signature.team else ""
+    return f"{identifier}{team}, flags {signature.flags:#x}, {signature.hash_type}"
 
 
 def _segments(image: Image) -> Iterator[Cells]:

@@ -249,7 +249,8 @@ rule, and what to do. For an accepted file it says what was not judged.""")
 def _add_show(commands: Any) -> None:
     parser = _add_command(commands, "show", _show, "show the layout of a file", """\
 Shows the layout of an accepted file: its slices, and for each 64-bit image its platform, segments, sections and
-libraries, and the cdhash of each code directory. For a refused file it prints the rule.""")
+libraries, what its code signature says of itself, and the cdhash of each code directory. For a refused file it prints
+the rule.""")
     parser.add_argument("--json", action="store_true", help="print an object with all fields and load commands")
     parser.add_argument("file", metavar="FILE", help="a file, or - for standard input")
 
