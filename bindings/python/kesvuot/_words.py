@@ -6,7 +6,7 @@ import argparse
 import json
 import os
 import sys
-from typing import Any, Callable, Dict, List
+from typing import Any, Callable, Dict, List, Optional
 
 from . import _check, library_version
 from ._check import ACCEPTED, NO_VERDICT, REFUSED, Choice, Outcome, Summary, judge_all
@@ -305,10 +305,21 @@ command, `kesvuot [--strict] [--json | --layout] FILE..` judges files as in vers
     return parser
 
 
+def _command_like(word: str) -> Optional[str]:
+    """The command that a word may be meant to be, if it is the name of no file."""
+    if os.path.lexists(word):
+        return None
+    from difflib import get_close_matches  # pylint: disable=import-outside-toplevel # it is seldom wanted
+    return next(iter(get_close_matches(word, COMMANDS, n=1, cutoff=0.75)), None)
+
+
 def read_words(words: List[str]) -> argparse.Namespace:
     """What to run. Words without a command are those of 1.0.0."""
     try:
         if words and words[0] not in (*COMMANDS, "-h", "--help", "--version"):
+            meant = _command_like(words[0])
+            if meant:
+                make_parser().error(f"no command or file {words[0]!r}: did you mean {meant!r}?")
             return _files_words(words)
         chosen, others = make_parser().parse_known_args(words)
         if others:
