@@ -6,7 +6,8 @@ import argparse
 import json
 import os
 import sys
-from typing import Any, Callable, Dict, List, Optional
+from collections import Counter
+from typing import Any, Callable, Dict, Iterator, List, Optional
 
 from . import _check, library_version
 from ._check import ACCEPTED, NO_VERDICT, REFUSED, Choice, Outcome, Summary, judge_all
@@ -19,7 +20,7 @@ from ._output import GREEN, RED, YELLOW, Output, WriteFailed, coloured, end_at_i
 from ._profiles import DEFAULT, PROFILES
 from ._progress import Progress, is_terminal
 from ._reports import REPORTS, Report, Write, reason_text, shown
-from ._show import show
+from ._show import Cells, columns, show
 
 # The version of the package (VERSION).
 VERSION = "2.0.0"
@@ -48,14 +49,17 @@ examples:
 
 
 class Text(Report):
-    """A line for each file, and the summary. What has no verdict is told on standard error."""
+    """A line for each file, and the summary: the counts, and if files break several rules a table of these. What has no
+    verdict is told on standard error."""
 
     def __init__(self, write: Write, profile: str, is_quiet: bool = False) -> None:
         super().__init__(write, profile)
         self.is_quiet = is_quiet
+        self.rules: Counter[str] = Counter()
 
     def add(self, outcome: Outcome) -> None:
         if outcome.word == REFUSED:
+            self.rules[str(outcome.rule)] += 1
             reason = reason_text(outcome).partition(":")
             self.write(f"{shown(outcome.path)}: {coloured(reason[0], RED, sys.stdout)}:{reason[2]}\n")
         elif outcome.word == ACCEPTED and not self.is_quiet:
@@ -64,6 +68,16 @@ class Text(Report):
     def end(self, summary: Summary) -> None:
         if not self.is_quiet:
             self.write(f"{summary}\n")
+            if len(self.rules) > 1:
+                self.write("\n")
+                for line in columns(self._rows):
+                    self.write(f"{line}\n")
+
+    def _rows(self) -> Iterator[Cells]:
+        """The rules that are broken, the one that refuses most files first."""
+        yield "rule", "refused files"
+        for rule, count in self.rules.most_common():
+            yield rule, str(count)
 
 
 # The forms of 1.0.0, without a command
