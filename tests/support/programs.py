@@ -49,7 +49,7 @@ def why_no_library() -> str:
 
 
 def calls_of_header() -> list[str]:
-    """The calls that the header declares, in order."""
+    """The calls of the library that the header declares, without the functions that it defines itself."""
     return sorted(re.findall(r"^[a-z0-9_]* (kesvuot_[a-z_]*)\(", HEADER.read_text(encoding="utf-8"), re.MULTILINE))
 
 

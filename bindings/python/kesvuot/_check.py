@@ -173,15 +173,18 @@ def _is_input(target: Target) -> bool:
 
 
 class Summary:
-    """How many files there are of each kind."""
+    """How many files there are of each kind, and how many each rule refuses."""
 
     def __init__(self) -> None:
         self.words: Counter[str] = Counter()
+        self.rules: Counter[str] = Counter()
         self.other_kinds = 0
         self.size = 0
 
     def add(self, outcome: Outcome) -> None:
         self.words[outcome.word] += 1
+        if outcome.word == REFUSED:
+            self.rules[str(outcome.rule)] += 1
         self.other_kinds += outcome.word == REFUSED and outcome.kind is not None
         self.size += outcome.size
 

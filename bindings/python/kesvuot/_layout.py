@@ -62,8 +62,7 @@ class Signature(NamedTuple):
 def signature_of(image: Image) -> Optional[Signature]:
     """That of the main code directory, or if it cannot be read of the first that can. None if there is no such one: the
     image has no signature, or one that is malformed."""
-    first = next(_directories_of(image), None)
-    main = next((found for found in _directories_of(image) if found[0] == CSSLOT_CODEDIRECTORY), first)
+    main = min(_directories_of(image), key=lambda found: found[0] != CSSLOT_CODEDIRECTORY, default=None)
     if main is None:
         return None
     slot, directory = main

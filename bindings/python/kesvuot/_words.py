@@ -6,8 +6,7 @@ import argparse
 import json
 import os
 import sys
-from collections import Counter
-from typing import Any, Callable, Dict, Iterator, List, Optional
+from typing import Any, Callable, Dict, List, Optional
 
 from . import _check, library_version
 from ._check import ACCEPTED, NO_VERDICT, REFUSED, Choice, Outcome, Summary, judge_all
@@ -20,7 +19,7 @@ from ._output import GREEN, RED, YELLOW, Output, WriteFailed, coloured, end_at_i
 from ._profiles import DEFAULT, PROFILES
 from ._progress import Progress, is_terminal
 from ._reports import REPORTS, Report, Write, reason_text, shown
-from ._show import Cells, columns, show
+from ._show import columns, show
 
 # The version of the package (VERSION).
 VERSION = "2.0.0"
@@ -55,11 +54,9 @@ class Text(Report):
     def __init__(self, write: Write, profile: str, is_quiet: bool = False) -> None:
         super().__init__(write, profile)
         self.is_quiet = is_quiet
-        self.rules: Counter[str] = Counter()
 
     def add(self, outcome: Outcome) -> None:
         if outcome.word == REFUSED:
-            self.rules[str(outcome.rule)] += 1
             reason = reason_text(outcome).partition(":")
             self.write(f"{shown(outcome.path)}: {coloured(reason[0], RED, sys.stdout)}:{reason[2]}\n")
         elif outcome.word == ACCEPTED and not self.is_quiet:
@@ -68,16 +65,9 @@ class Text(Report):
     def end(self, summary: Summary) -> None:
         if not self.is_quiet:
             self.write(f"{summary}\n")
-            if len(self.rules) > 1:
-                self.write("\n")
-                for line in columns(self._rows):
-                    self.write(f"{line}\n")
-
-    def _rows(self) -> Iterator[Cells]:
-        """The rules that are broken, the one that refuses most files first."""
-        yield "rule", "refused files"
-        for rule, count in self.rules.most_common():
-            yield rule, str(count)
+            if len(summary.rules) > 1:
+                rows = [("rule", "refused files"), *((rule, str(count)) for rule, count in summary.rules.most_common())]
+                self.write("\n" + "".join(f"{line}\n" for line in columns(lambda: iter(rows))))
 
 
 # The forms of 1.0.0, without a command
