@@ -91,3 +91,8 @@ SlicesTakeMemory file =
 abbrev pub IsFatFault : List ℕ → FatFault → Type 0
 IsFatFault file (fault.Broken b) = IsLeast (BreaksFile file) b
 IsFatFault file fault.Memory = SlicesTakeMemory file
+
+-- The same where the one slice of a file that is an image takes memory too.
+abbrev pub IsListFault : List ℕ → FatFault → Type 0
+IsListFault file (fault.Broken b) = IsLeast (BreaksFile file) b
+IsListFault file fault.Memory = NothingBreaks (BreaksFile file) ⊎ SlicesTakeMemory file

@@ -10,7 +10,7 @@ ghost use Rattle.macho_fields.specs.Universal.{entry_count, is_universal, slices
 ghost use Rattle.macho_fields.specs.declared.rule.Rule.{Rule};
 ghost use Rattle.macho_fat.specs.Slices.{slice_of, slices_in, capacity_of, listed_count};
 ghost use Rattle.macho_fat.specs.Slices.{MarksRead, AreSlices, HasImageInside, MarksReadInside};
-ghost use Rattle.macho_fat.specs.Slices.{IsFatFault};
+ghost use Rattle.macho_fat.specs.Slices.{IsFatFault, IsListFault};
 
 use crate::check::check_file;
 use crate::fault::FatFault;
@@ -56,13 +56,34 @@ impl SliceList {
 
 /// The slices of a file: the whole of a file that is one image, and otherwise one slice for each
 /// entry of the table, in order. If one of the rules of the file, from `magic` to `fat-empty`, is
-/// broken, it returns the first broken rule. The list has no spare capacity.
+/// broken, it returns the first broken rule.
+///
+/// It takes memory as [`slice_list`] does, and for the slice of a file that is one image.
+pub fn slices(alloc: Global, file: Bytes) -> Result<Vec<Slice>, FatFault>
+    ensures slices { IfOk result (λ slices.
+        map slice_of slices.items ≡ slices_of (bytes_of file.entry)) }
+    ensures read { IfOk result (λ slices. All (MarksRead (bytes_of file.entry)) slices.items) }
+    ensures unbroken { OnOk result (NothingBreaks (BreaksFile (bytes_of file.entry))) }
+    ensures refused { IfErr result (IsListFault (bytes_of file.entry)) }
+{
+    match slice_list(alloc, file)? {
+        SliceList::One(slice) => {
+            let mut slices = Vec::with_capacity(alloc, 1)?;
+            slices.push_reserved(slice);
+            Ok(slices)
+        }
+        SliceList::Many(slices) => Ok(slices),
+    }
+}
+
+/// The slices of a file, as [`slices`] returns them, without memory for a file that is one image.
+/// The list has no spare capacity.
 ///
 /// Memory is allocated only for a universal file, and only if the rules from `magic` to `fat-align`
 /// are unbroken. `fat-overlap` and `fat-duplicate` take it only if the slices, or the numbers of the
 /// architectures, neither ascend nor descend: 24 bytes per entry, to sort them, which they free. The
 /// list is made last.
-pub fn slices(alloc: Global, file: Bytes) -> Result<SliceList, FatFault>
+pub fn slice_list(alloc: Global, file: Bytes) -> Result<SliceList, FatFault>
     ensures slices { IfOk result (λ list.
         map slice_of (slices_in list) ≡ slices_of (bytes_of file.entry)) }
     ensures read { IfOk result (λ list. All (MarksRead (bytes_of file.entry)) (slices_in list)) }

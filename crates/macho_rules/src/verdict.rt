@@ -16,7 +16,7 @@ ghost use Rattle.macho_rules.specs.Verdict.{IsRefusal, IsImageRefusal, IsSliceRe
 
 use crate::check::check_image;
 use crate::refusal::Refusal;
-use macho_fat::{Slice, SliceList, slices};
+use macho_fat::{Slice, SliceList, slice_list};
 use macho_fields::{Break, Bytes, Span};
 use macho_image::{Image, Landmarks};
 use std::alloc::Global;
@@ -56,7 +56,7 @@ impl<'a> Model for Verified<'a> {
 /// its place in the file.
 ///
 /// The rules of the file itself come first; then its 64-bit slices, in the order of the table, each
-/// with all of its rules before the next. It takes memory as [`slices`] does, and for one image at a
+/// with all of its rules before the next. It takes memory as [`slice_list`] does, and for one image at a
 /// time as [`check_image`] does: none for a file that is not universal, and whose mapped segments
 /// ascend or descend.
 pub fn verify<'a>(alloc: Global, file: &'a [u8]) -> Result<Verified<'a>, Refusal>
@@ -70,7 +70,7 @@ pub fn verify<'a>(alloc: Global, file: &'a [u8]) -> Result<Verified<'a>, Refusal
     ensures file { IfOk result (λ verified. verified ≡ file.now) }
 {
     let file = Bytes::new(file);
-    let slices = slices(alloc, file)?;
+    let slices = slice_list(alloc, file)?;
     let found = check_slices(alloc, file, slices.as_slice())?;
     Ok(Verified {
         file,

@@ -2,7 +2,7 @@
 
 use super::same;
 use crate::notation::written;
-use macho_fat::{Slice, SliceList, slices};
+use macho_fat::{Slice, slices};
 use macho_fields::header::machine::{CPU_TYPE_ARM64, CPU_TYPE_X86_64};
 use macho_fields::{Bytes, Span};
 use macho_rules::{Mapping, verify};
@@ -50,7 +50,7 @@ fn lists_of_slices(rt: HostRuntime) {
     for &(bytes, wanted) in LISTS {
         let file = written(&rt, bytes);
         let list = slices(rt.alloc(), Bytes::new(&file));
-        same(&rt, &list.as_ref().map(SliceList::as_slice), &Ok(wanted));
+        same(&rt, &list.as_ref().map(Vec::as_slice), &Ok(wanted));
     }
 }
 

@@ -3,7 +3,7 @@ use Rattle.macho_fields.specs.Bytes.{bytes_of}
 use Rattle.macho_fat.specs.Slices.{MarksRead}
 use Rattle.macho_fat.specs.declared.fault.FatFault.TheVariants as fault
 use Rattle.macho_fat.proofs.Faults.{fault_passed}
-use Rattle.macho_fat.proofs.slice.slices.Goals as goal
+use Rattle.macho_fat.proofs.slice.slice_list.Goals as goal
 
 pub returns-in_err-check_file-clause-refused : goal.returns-in_err-check_file-clause-refused
 returns-in_err-check_file-clause-refused c =
