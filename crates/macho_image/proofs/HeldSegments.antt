@@ -1,9 +1,9 @@
 -- The segments of an opened image, and their sections.
-use Rattle.std.proofs.Common.{◌≡◌, ℕ, ◌+◌, ◌*◌, ◌≤◌, ◌==◌, List, [], ◌∷◌, ◌++◌, length, map, cond, Bool, true, false, All, Contains, refl, sym, ap, ◌∙◌, subst, arith}
+use Rattle.std.proofs.Common.{◌≡◌, ℕ, ◌+◌, ◌*◌, ◌≤◌, ◌==◌, None, inl, inr, List, [], ◌∷◌, ◌++◌, length, map, cond, Bool, true, false, All, Contains, refl, sym, ap, ◌∙◌, subst, arith}
 use Rattle.std.specs.List.{sum_by, flat_map}
 use Rattle.std.proofs.lemmas.List.{map-append}
 use Rattle.std.proofs.lemmas.Simd.{map-map}
-use Rattle.std.proofs.lemmas.Bool.{eqb-true}
+use Rattle.std.proofs.lemmas.Bool.{cases_Bool, eqb-true}
 use Rattle.std.proofs.lemmas.List.Elements.{All-contains_itself, All-map, All-tail}
 use Rattle.std.proofs.lemmas.List.Sums.{sum_by-cons}
 use Rattle.macho_fields.specs.Image.{command_cmd, command_size, commands_end, commands_of, Follow}
@@ -13,7 +13,7 @@ use Rattle.macho_fields.proofs.Opened.{sections_inside, command_inside}
 use Rattle.macho_fields.proofs.Parts.{with_cmd_is, with_cmd_among}
 use Rattle.macho_image.specs.Opened.{IsOpened}
 use Rattle.macho_image.specs.Command.{CommandView, command_at}
-use Rattle.macho_image.specs.Segment.{sections_among, SegmentView, SectionView, segment_at, section_at, sections_with, sections_of}
+use Rattle.macho_image.specs.Segment.{segment_of, sections_among, SegmentView, SectionView, segment_at, section_at, sections_with, sections_of}
 use Rattle.macho_image.specs.Views.{HaveSegments, HoldsSegment, HoldSegments, HoldsSection}
 use Rattle.macho_image.specs.Symbol.{items_from}
 use Rattle.macho_image.proofs.Opened.{opened_keeps}
@@ -27,6 +27,13 @@ held_segment image segment opened among is =
     let are = opened_commands image opened in
     let holds : 72 + 80 * nsects image segment ≤ command_size image segment = sections_inside image (commands_of image) facts are segment among is in
     let inside : segment + command_size image segment ≤ length image = command_inside image (commands_of image) facts are segment among in omega arith
+
+-- another command is no segment
+pub no_segment : (image : List ℕ) (command : CommandView) → ¬ (command.cmd ≡ loader.LC_SEGMENT_64) → segment_of image command ≡ None
+no_segment image command other = elim (cases_Bool (command.cmd == loader.LC_SEGMENT_64)) [
+  | inl t ↦ absurd (other (eqb-true command.cmd loader.LC_SEGMENT_64 t))
+  | inr f ↦ rw f refl
+]
 
 -- the segments of an opened image lie inside it
 pub all_segments_hold : (image : List ℕ) (all : List CommandView) → IsOpened image → HaveSegments image all → HoldSegments image all

@@ -1,12 +1,13 @@
 //! The segments of an opened image. (`mach-o/loader.h`: `segment_command_64`)
 
-ghost use Rattle.std.specs.Prelude.{◌≡◌, ◌+◌, ◌≤◌, length, ◌^◌, ◌<◌, map};
+ghost use Rattle.std.specs.Prelude.{◌≡◌, ◌+◌, ◌≤◌, length, ◌^◌, ◌<◌, map, ◌↔◌, IsTrue, IfSome};
 ghost use Rattle.std.specs.Iterator.{YieldsFirst, item_count};
 ghost use Rattle.macho_fields.specs.Bytes.{bytes_of};
 ghost use Rattle.macho_fields.specs.Image.{commands_of};
 ghost use Rattle.macho_fields.specs.Segment.{vmaddr, vmsize, fileoff, filesize, initprot, nsects, shows_start, segments_of, section_count};
 ghost use Rattle.macho_image.specs.Command.{command_of};
 ghost use Rattle.macho_image.specs.Opened.{IsOpened, IsCommandOf};
+ghost use Rattle.macho_image.specs.Views.{HoldsSegment};
 ghost use Rattle.macho_image.specs.Segment.{short_name, maxprot, section_at, sections_with, segment_name, segment_at, segment_of};
 
 use crate::command::{Command, Commands, long_in, word_in};
@@ -42,20 +43,6 @@ impl<'a> Model for Segment<'a> {
 }
 
 impl<'a> Segment<'a> {
-    /// A command of the image as a segment, or `None` if it is another command.
-    pub fn of(image: Bytes<'a>, command: &Command) -> Option<Segment<'a>>
-        requires { IsCommandOf (bytes_of image) (command_of command.now) }
-        ensures { result ≡ segment_of (bytes_of image.entry) (command_of command.now) }
-    {
-        if command.cmd != LC_SEGMENT_64 {
-            return None;
-        }
-        Some(Segment {
-            image,
-            place: command.place,
-        })
-    }
-
     /// All bytes of the image that it is a segment of.
     pub fn image(&self) -> Bytes<'a>
         ensures { bytes_of result ≡ self.now.image }
@@ -171,6 +158,37 @@ impl<'a> Segment<'a> {
             items: Items::new(start, self.nsects(), SECTION_64_SIZE),
         }
     }
+}
+
+impl Command<'_> {
+    /// The command as a segment of the image that it was read from, or `None` if it is another command.
+    /// In other bytes it is a segment only where its sections lie inside them.
+    pub fn segment<'i>(&self, image: Bytes<'i>) -> Option<Segment<'i>>
+        ensures segment { IfSome result (λ segment.
+            segment ≡ segment_at (bytes_of image.entry) self.now.place) }
+        ensures listed { IsCommandOf (bytes_of image.entry) (command_of self.now)
+            → result ≡ segment_of (bytes_of image.entry) (command_of self.now) }
+    {
+        if self.cmd != LC_SEGMENT_64 || !holds_segment(image, self.place) {
+            return None;
+        }
+        Some(Segment {
+            image,
+            place: self.place,
+        })
+    }
+}
+
+// Whether the structure of a segment at `place` and its sections lie inside the image.
+fn holds_segment(image: Bytes, place: u64) -> bool
+    ensures { IsTrue result ↔ HoldsSegment (bytes_of image.entry) place }
+{
+    if !image.contains_table(place, 1, SEGMENT_COMMAND_64_SIZE) {
+        return false;
+    }
+    prove!(image.len() <= u64::MAX);
+    let nsects = u64::from(word_in(image, place, NSECTS));
+    image.contains_table(place + SEGMENT_COMMAND_64_SIZE, nsects, SECTION_64_SIZE)
 }
 
 /// The segments of an image that remain, in the order of the commands.

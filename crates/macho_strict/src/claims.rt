@@ -15,7 +15,7 @@ use crate::elements::{Element, Elements, Tables, contents, headers, relocations,
 use crate::gaps::{Gaps, Wanted, stray_in};
 use crate::overlap::{count_of, gaps_between, span_list};
 use macho_fields::{Bytes, Span, SpanList, SpansByStart, Structure};
-use macho_image::{Command, Image, Sections, Segment};
+use macho_image::{Command, Image, Sections};
 use std::alloc::{AllocError, Global};
 
 // The elements are few if the commands end by this place. Then a walk lists them, so that they can be
@@ -119,7 +119,7 @@ impl<'a> Noted<'a> {
             → AreNoted (bytes_of bytes.entry)
             (elements ++ command_elements (bytes_of bytes.entry) command.now.place) self.new }
     {
-        match Segment::of(bytes, command) {
+        match command.segment(bytes) {
             Some(segment) => self.note_sections(segment.sections()),
             None => self.note_tables(tables_of(bytes, command, structure)),
         }

@@ -12,7 +12,7 @@ ghost use Rattle.macho_strict.specs.ElementWalk.{tables_left};
 use macho_fields::header::loader::{LC_ENCRYPTION_INFO_64, LINKEDIT_DATA_COMMAND_SIZE};
 use macho_fields::header::reloc::RELOCATION_INFO_SIZE;
 use macho_fields::{Bytes, Span, Structure, TableFields, structure_of, unlisted_tables};
-use macho_image::{Command, Commands, Image, Section, Sections, Segment};
+use macho_image::{Command, Commands, Image, Section, Sections};
 use std::marker::Model;
 
 /// A part of an image that a structure describes.
@@ -179,7 +179,7 @@ fn describe<'a>(image: Bytes<'a>, command: &Command, structure: Option<Structure
     requires listed { IsCommandOf (bytes_of image) (command_of command.now) }
     ensures { result ≡ command_elements (bytes_of image.entry) command.now.place }
 {
-    let sections = match Segment::of(image, command) {
+    let sections = match command.segment(image) {
         Some(segment) => Some(segment.sections()),
         None => None,
     };

@@ -14,8 +14,8 @@ pub returns : goal.returns
 returns c =
     let image = bytes_of c.args.image in
     let v = command_of c.args.command.now in
-    let have : c.match-of.sections ≡ option_map sections_of (segment_of image v) = elim c.match-of.branch [
-      | in-Some w ↦ w.sections-is ∙ (ap Some w.sections.ensures ∙ ap (option_map sections_of) (sym w.in-Some.is ∙ c.of.ensures))
-      | in-None w ↦ w.sections-is ∙ ap (option_map sections_of) (sym w.in-None.is ∙ c.of.ensures)
+    let have : c.match-segment.sections ≡ option_map sections_of (segment_of image v) = elim c.match-segment.branch [
+      | in-Some w ↦ w.sections-is ∙ (ap Some w.sections.ensures ∙ ap (option_map sections_of) (sym w.in-Some.is ∙ (c.segment.ensures.listed c.requires.listed)))
+      | in-None w ↦ w.sections-is ∙ ap (option_map sections_of) (sym w.in-None.is ∙ (c.segment.ensures.listed c.requires.listed))
     ] in
-    as_described image v c.requires.listed c.match-of.sections c.tables_of.result have c.tables_of.ensures
+    as_described image v c.requires.listed c.match-segment.sections c.tables_of.result have c.tables_of.ensures

@@ -11,12 +11,12 @@ pub returns-in-Some : goal.returns-in-Some
 returns-in-Some c = λ elements are.
     let image = bytes_of c.args.bytes in
     let v = command_of c.args.command.now in
-    let described = ap section_elements_left c.sections.ensures ∙ segment_described image v c.requires.listed c.in-Some.segment (sym c.of.ensures ∙ c.in-Some.is) in
+    let described = ap section_elements_left c.sections.ensures ∙ segment_described image v c.requires.listed c.in-Some.segment (sym (c.segment.ensures.listed c.requires.listed) ∙ c.in-Some.is) in
     subst (λ (es : List Element). AreNoted image (elements ++ es) c.note_sections.new.self) described (c.note_sections.ensures image elements are)
 
 pub returns-in-None : goal.returns-in-None
 returns-in-None c = λ elements are.
     let image = bytes_of c.args.bytes in
     let v = command_of c.args.command.now in
-    let described = c.tables_of.ensures ∙ other_described image v c.requires.listed (sym c.of.ensures ∙ c.in-None.is) in
+    let described = c.tables_of.ensures ∙ other_described image v c.requires.listed (sym (c.segment.ensures.listed c.requires.listed) ∙ c.in-None.is) in
     subst (λ (es : List Element). AreNoted image (elements ++ es) c.note_tables.new.self) described (c.note_tables.ensures image elements are)
