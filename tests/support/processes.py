@@ -4,11 +4,14 @@ from __future__ import annotations
 
 import os
 import signal
+import threading
 from pathlib import Path
 from typing import Callable, Iterator, NoReturn
 
 # Not SIGPIPE, which a program sends that does not read its input: Python ignores that signal.
 SIGNALS = (signal.SIGINT, signal.SIGTERM, signal.SIGHUP)
+# A thread has this while it starts a process.
+STARTING = threading.Lock()
 
 
 class Ended(KeyboardInterrupt):
@@ -31,7 +34,7 @@ def started_by(process: int) -> Iterator[int]:
             yield from started_by(child)
 
 
-def handle(handler: Callable[[int, object], NoReturn] | signal.Handlers) -> None:
+def handle(handler: Callable[[int, object], object] | signal.Handlers) -> None:
     for number in SIGNALS:
         signal.signal(number, handler)
 
@@ -57,17 +60,10 @@ def end_by(number: int) -> NoReturn:
     raise SystemExit(128 + number)
 
 
-def end_at_once(number: int, _frame: object) -> NoReturn:
-    """For what runs threads and keeps nothing to clear: an exception could be lost in a callback of the interpreter."""
-    handle(signal.SIG_IGN)
-    end_all()
-    end_by(number)
-
-
-def end_with_children(run: Callable[[], int], end: Callable[[int, object], NoReturn] = raise_ended) -> NoReturn:
-    """Runs the function, and ends with the status that it returns. By a signal, or where nobody reads what it prints, it
-    ends with all that was started."""
-    handle(end)
+def end_with_children(run: Callable[[], int]) -> NoReturn:
+    """Runs the function, and ends with the status that it returns. By a signal, or where nobody reads what it prints,
+    it ends with all that was started."""
+    handle(raise_ended)
     try:
         status = run()
     except Ended as ended:
@@ -76,4 +72,35 @@ def end_with_children(run: Callable[[], int], end: Callable[[int, object], NoRet
     except BrokenPipeError:
         end_all()
         end_by(signal.SIGPIPE)
+    raise SystemExit(status)
+
+
+def end_with_threads(run: Callable[[], int]) -> NoReturn:
+    """The same for a function that has threads, which start processes under STARTING. Python runs handlers in the main
+    thread alone, and a signal does not end its wait for a lock if it reaches another thread, or comes just before that
+    wait. So the function runs in another thread, and this one reads a pipe, to which Python writes each signal."""
+    reader, writer = os.pipe()
+    os.set_blocking(writer, False)
+    signal.set_wakeup_fd(writer)
+    handle(lambda _number, _frame: None)
+    status = 1
+
+    def work() -> None:
+        nonlocal status
+        number = 0
+        try:
+            status = run()
+        except BrokenPipeError:
+            number = signal.SIGPIPE
+        finally:
+            os.write(writer, bytes([number]))
+
+    threading.Thread(target=work, daemon=True).start()
+    number = os.read(reader, 1)[0]
+    if number:
+        # Threads whose processes end would start others.
+        with STARTING:
+            end_all()
+            end_by(number)
+    handle(signal.SIG_DFL)
     raise SystemExit(status)

@@ -14,13 +14,13 @@ from dataclasses import dataclass
 from typing import Callable, NoReturn, Sequence
 
 from .calling import TOP, Word, has_tool
-from .processes import end_at_once, end_with_children
+from .processes import STARTING, end_with_threads
 from .programs import build_trials
 
 # What takes long comes first. Those of the library wait until it is built. The others run the programs, but
-# tests/floor, which runs one of its own, tests/dyld and tests/counts, which run none, and tests/command, which has
-# stubs.
-PROGRAM_SCRIPTS = "program floor refusals oracle strict linked sealed dyld sizes limits vectors counts".split()
+# tests/floor, which runs one of its own, tests/dyld, tests/counts and tests/agreed, which run none, and tests/command,
+# which has stubs.
+PROGRAM_SCRIPTS = "program floor refusals oracle strict linked sealed dyld sizes limits vectors counts agreed".split()
 LIBRARY_SCRIPTS = "cost rebuild library python tool map explain slots code exports examples rust go fuzz recipes install".split()
 SCRIPTS = ["command", *PROGRAM_SCRIPTS, *LIBRARY_SCRIPTS]
 CLOSING_LINE = re.compile(r"(\d+) passed, (\d+) failed")
@@ -91,7 +91,9 @@ class Terminal:
 
 def run_lines(words: Sequence[Word], show: Callable[[str], None]) -> int:
     """Runs a program without input, shows each line that it writes, and returns its status."""
-    with subprocess.Popen(words, stdin=subprocess.DEVNULL, stdout=subprocess.PIPE, stderr=subprocess.STDOUT) as process:
+    with STARTING:
+        process = subprocess.Popen(words, stdin=subprocess.DEVNULL, stdout=subprocess.PIPE, stderr=subprocess.STDOUT)
+    with process:
         for line in process.stdout:
             show(line.decode(errors="replace").rstrip("\n"))
     return process.returncode
@@ -226,4 +228,4 @@ def main(words: Sequence[str], description: str) -> NoReturn:
     if unknown:
         parser.error(f"no script of the gate: {', '.join(sorted(unknown))}")
     names = [name for name in SCRIPTS if not chosen.names or name in chosen.names]
-    end_with_children(lambda: Gate(names, chosen.gate).run(), end_at_once)
+    end_with_threads(Gate(names, chosen.gate).run)
