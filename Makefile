@@ -21,7 +21,7 @@ DESTDIR =
 OUT = out
 
 # The programs, each of which has a page.
-PROGRAMS = macho-check macho-strict macho-linked macho-sealed
+PROGRAMS = macho-check macho-verify
 
 TO_BIN = "$(DESTDIR)$(BINDIR)"
 TO_LIB = "$(DESTDIR)$(LIBDIR)"
@@ -47,8 +47,8 @@ FILL_TOOL = sed -e "1s|@PYTHON@|$(PYTHON)|; s|@LIB_FROM_HERE@|$$(realpath -ms --
 
 # On an empty input, each command builds its program, if it is not current, and the program refuses the input.
 all: lib
-	@for command in $(PROGRAMS); do \
-	    test "$$(./$$command </dev/null)" = "refused: magic at 0x0" || exit; \
+	@top=. && . crates/macho_check/record.sh && for command in $(PROGRAMS); do \
+	    take_program $$command && test "$$(./$$command $$judging </dev/null)" = "refused: magic at 0x0" || exit; \
 	done
 
 lib:
@@ -63,12 +63,13 @@ bench:
 install: install-programs install-lib
 
 install-programs: built
-	install -d $(TO_BIN) $(TO_MAN)/man1
+	install -d $(TO_BIN) $(TO_MAN)/man1 $(TO_BASH) $(TO_ZSH) $(TO_FISH)
 	install -m 755 crates/macho_check/out/macho_check $(TO_BIN)/macho-check
-	install -m 755 crates/macho_strict_check/out/macho_strict_check $(TO_BIN)/macho-strict
-	install -m 755 crates/macho_linked_check/out/macho_linked_check $(TO_BIN)/macho-linked
-	install -m 755 crates/macho_sealed_check/out/macho_sealed_check $(TO_BIN)/macho-sealed
+	install -m 755 crates/macho_verify/out/macho_verify $(TO_BIN)/macho-verify
 	for program in $(PROGRAMS); do install -m 644 man/$$program.1 $(TO_MAN)/man1 || exit; done
+	install -m 644 packaging/completions/macho-verify.bash $(TO_BASH)/macho-verify
+	install -m 644 packaging/completions/_macho-verify $(TO_ZSH)
+	install -m 644 packaging/completions/macho-verify.fish $(TO_FISH)
 
 # The library alone, which `make lib` builds, with the command kesvuot.
 install-lib: built-lib
@@ -96,7 +97,9 @@ install-lib: built-lib
 uninstall:
 	for program in $(PROGRAMS); do rm -f $(TO_BIN)/$$program $(TO_MAN)/man1/$$program.1 || exit; done
 	rm -f $(TO_BIN)/kesvuot $(TO_MAN)/man1/kesvuot.1
-	rm -f $(TO_BASH)/kesvuot $(TO_ZSH)/_kesvuot $(TO_FISH)/kesvuot.fish
+	for name in kesvuot macho-verify; do \
+	    rm -f $(TO_BASH)/$$name $(TO_ZSH)/_$$name $(TO_FISH)/$$name.fish || exit; \
+	done
 	rm -f $(TO_LIB)/libkesvuot.a $(TO_LIB)/libkesvuot.so.2 $(TO_LIB)/libkesvuot.so $(TO_LIB)/pkgconfig/kesvuot.pc
 	rm -f $(TO_INCLUDE)/kesvuot.h
 	rm -rf $(TO_LIB)/cmake/kesvuot $(TO_PYTHON)/kesvuot

@@ -4,7 +4,7 @@
 //     bench/rules_tables.py >rules_tables.h && cc -std=c99 -O2 -I. -o floor bench/floor.c
 //     ./floor [--strict | --linked] <FILE
 //
-// With --strict it decides what macho-strict decides, and with --linked what macho-linked decides.
+// With --strict and with --linked it decides what macho-verify decides by that profile.
 //
 // It shows how fast C can be at this. bench/speed runs it beside the program, and tests/floor tries its answers.
 // Nothing is walked twice without need: one walk over the load commands judges each command, segment and section, and

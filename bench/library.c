@@ -36,7 +36,7 @@ static uint64_t now(void) {
 static struct kesvuot_verdict verdict;
 
 static uint64_t by_library(const struct file *file) {
-    if (kesvuot_verify(file->bytes, file->size, &verdict) == KESVUOT_NO_MEMORY) {
+    if (kesvuot_verify(file->bytes, file->size, KESVUOT_LAYOUT, &verdict) == KESVUOT_NO_MEMORY) {
         stop(NO_MEMORY, "out of memory");
     }
     return verdict.rule;

@@ -65,7 +65,7 @@ static inline int judge(const char *path, struct judged *file) {
     if (!is_read) {
         return fail(path, "it cannot be read, or there is no memory for it");
     }
-    switch (kesvuot_verify(file->bytes, file->size, &verdict)) {
+    switch (kesvuot_verify(file->bytes, file->size, KESVUOT_LAYOUT, &verdict)) {
     case KESVUOT_OK:
         file->slices = verdict.slices;
         return ACCEPTED;

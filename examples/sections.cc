@@ -48,7 +48,7 @@ struct Refused : std::runtime_error {
 // Judges a file, and returns how many slices it has.
 std::uint64_t judge(const Bytes &file) {
     kesvuot_verdict verdict;
-    switch (kesvuot_verify(file.data(), file.size(), &verdict)) {
+    switch (kesvuot_verify(file.data(), file.size(), KESVUOT_LAYOUT, &verdict)) {
     case KESVUOT_OK:
         return verdict.slices;
     case KESVUOT_REFUSED: {

@@ -1,5 +1,5 @@
 #!/usr/bin/env python3
-"""Works out by hashlib the lines of code directories that ./macho-sealed prints after the entry of each image, and
+"""Works out by hashlib the lines of code directories that `macho-verify sealed` prints after the entry of each image, and
 prints those of a file:
 
     tests/cdhashes.py FILE

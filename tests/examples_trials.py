@@ -122,7 +122,7 @@ def parts(data: bytes) -> Iterator[tuple[str, int, int]]:
 def accepted_mutants(others: list[bytes]) -> Iterator[bytes]:
     """Mutants of the vectors, of tests/real, and of other files, that are accepted and are none of the files."""
     files = [data for _, data, _ in oracle_trials.read_real()] + others
-    vectors = [vector for _, some in oracle_trials.read_all_vectors(False) for vector in some]
+    vectors = [vector for _, some in oracle_trials.read_all_vectors("layout") for vector in some]
     corpus = files + [vector.data for vector in vectors]
     # Real files have symbols and sections: a mutant of one shows most.
     weights = [2000 / len(files)] * len(files) + [1 if vector.wanted == "accepted" else 0 for vector in vectors]

@@ -41,8 +41,11 @@ static void stop(const char *condition, int line) {
     abort();
 }
 
-// Whether the file breaks a rule, no rule, or no strict rule either.
-enum accepted { REFUSED = 0, ACCEPTED, ACCEPTED_STRICTLY };
+// `accepted` is the last profile that accepts the file, or this.
+enum { REFUSED = 0 };
+
+// A verdict by each profile, at its number.
+enum { VERDICTS = KESVUOT_SEALED + 1 };
 
 // Counters
 
@@ -204,7 +207,7 @@ static void check_batches(const struct table *table, const struct held *held, co
 
 // Reads a table of an image as kesvuot_read_image has written it. It has as many rows as it says; symbols and indirect
 // entries may be fewer where the file is refused.
-static struct rows read_table(unsigned number, const struct held *held, enum accepted accepted) {
+static struct rows read_table(unsigned number, const struct held *held, uint32_t accepted) {
     const struct table *table = &tables[number];
     struct kesvuot_cursor cursor = {0};
     uint64_t wanted;
@@ -220,7 +223,7 @@ static struct rows read_table(unsigned number, const struct held *held, enum acc
 
 // The rows of an image
 
-static void check_segments(const struct held *held, const struct rows *all, enum accepted accepted) {
+static void check_segments(const struct held *held, const struct rows *all, uint32_t accepted) {
     const struct kesvuot_segment *row = all->rows;
     uint64_t sections = 0;
     for (size_t k = 0; k < all->count; k++, row++) {
@@ -278,7 +281,7 @@ static void check_covered(const struct held *held, const struct rows *all) {
 
 // Some relocations of a section, from an index on. The library reads none that end past the slice.
 static void check_relocations(const struct held *held, uint32_t reloff, uint32_t nreloc, uint64_t first,
-                              enum accepted accepted) {
+                              uint32_t accepted) {
     struct kesvuot_relocation rows[RELOCATIONS + 1];
     struct kesvuot_cursor cursor = {.items = first};
     const struct kesvuot_span slice = held->image.slice;
@@ -701,7 +704,7 @@ static void check_exports(const struct held *held, const struct rows *commands) 
     }
 }
 
-static void check_sections(const struct held *held, const struct rows *all, enum accepted accepted) {
+static void check_sections(const struct held *held, const struct rows *all, uint32_t accepted) {
     const struct kesvuot_section *row = all->rows;
     for (size_t k = 0; k < all->count; k++, row++) {
         check_inside(held, row->name);
@@ -921,7 +924,7 @@ static void check_names(const struct held *held, const struct kesvuot_symbol *ro
     }
 }
 
-static void check_symbols(const struct held *held, const struct rows *all, enum accepted accepted) {
+static void check_symbols(const struct held *held, const struct rows *all, uint32_t accepted) {
     const struct kesvuot_symbol *row = all->rows;
     check_names(held, row, all->count < BATCH_OF_NAMES ? all->count : BATCH_OF_NAMES);
     for (size_t k = 0; k < all->count; k++, row++) {
@@ -1016,14 +1019,14 @@ static void check_named(const struct held *held, const struct rows *all, size_t 
     CHECK(is_empty(name) || kesvuot_find_name(OF(held), bytes, name.size + 1, &symbol, &found) == KESVUOT_NONE);
 }
 
-static void check_indirects(const struct held *held, const struct rows *all, enum accepted accepted) {
+static void check_indirects(const struct held *held, const struct rows *all, uint32_t accepted) {
     const uint32_t *row = all->rows;
     for (size_t k = 0; k < all->count; k++, row++) {
         CHECK(!accepted || (*row & INDIRECT_SYMBOL_LOCAL_OR_ABS) != 0 || *row < held->image.symbol_count);
     }
 }
 
-static void check_tables(const struct held *held, enum accepted accepted) {
+static void check_tables(const struct held *held, uint32_t accepted) {
     struct rows all[TABLE_COUNT];
     for (unsigned k = 0; k < TABLE_COUNT; k++) {
         all[k] = read_table(k, held, accepted);
@@ -1048,7 +1051,7 @@ static void check_tables(const struct held *held, enum accepted accepted) {
         check_thread(held, &all[COMMANDS]);
         check_exports(held, &all[COMMANDS]);
     }
-    if (accepted == ACCEPTED_STRICTLY) {
+    if (accepted >= KESVUOT_STRICT) {
         check_covered(held, &all[SEGMENTS]);
     }
     for (unsigned k = 0; k < TABLE_COUNT; k++) {
@@ -1172,7 +1175,7 @@ static void check_lies(const struct held *held) {
 
 // Files
 
-static void check_image(const struct held *held, enum accepted accepted) {
+static void check_image(const struct held *held, uint32_t accepted) {
     struct kesvuot_span bytes;
     check_tables(held, accepted);
     check_inside(held, held->image.id.name);
@@ -1201,7 +1204,7 @@ static void check_unread(const struct kesvuot_image *image, bool has_slice) {
 }
 
 // The image of a slice of a file that has `slices`. A refused file may have any number.
-static void check_slice(const uint8_t *file, size_t size, uint64_t slice, uint64_t slices, enum accepted accepted) {
+static void check_slice(const uint8_t *file, size_t size, uint64_t slice, uint64_t slices, uint32_t accepted) {
     struct held held = {.file = {file, size}};
     memset(&held.image, UNWRITTEN, sizeof held.image);
     uint32_t status = kesvuot_read_image(file, size, slice, &held.image);
@@ -1217,22 +1220,18 @@ static void check_slice(const uint8_t *file, size_t size, uint64_t slice, uint64
     }
 }
 
-static bool is_same(const struct kesvuot_verdict *one, const struct kesvuot_verdict *other) {
-    return one->rule == other->rule && one->place == other->place && one->slices == other->slices;
-}
+#define CASE(constant, name) case KESVUOT_##constant:
 
-#define OR_IS(constant, name) || rule == KESVUOT_##constant
-
-static bool is_strict(uint32_t rule) {
-    return false STRICT_RULES(OR_IS);
-}
-
-static bool is_linked(uint32_t rule) {
-    return false LINKED_RULES(OR_IS);
-}
-
-static bool is_sealed(uint32_t rule) {
-    return false SEALED_RULES(OR_IS);
+// The profile of a rule, by the documents.
+static uint32_t profile_of(uint32_t rule) {
+    switch (rule) {
+        LAYOUT_RULES(CASE) return KESVUOT_LAYOUT;
+        STRICT_RULES(CASE) return KESVUOT_STRICT;
+        LINKED_RULES(CASE) return KESVUOT_LINKED;
+        SEALED_RULES(CASE) return KESVUOT_SEALED;
+    default:
+        return 0;
+    }
 }
 
 // The verdict is whole.
@@ -1268,59 +1267,36 @@ static void check_explanation(const uint8_t *file, size_t size, const struct kes
     }
 }
 
-// The sealed verdict of a file that another profile refuses is the same.
-static void check_sealed(const uint8_t *file, size_t size, uint32_t linked_status,
-                         const struct kesvuot_verdict *linked) {
-    struct kesvuot_verdict sealed;
-    memset(&sealed, UNWRITTEN, sizeof sealed);
-    uint32_t status = kesvuot_verify_sealed(file, size, &sealed);
-    check_verdict(status, &sealed, size);
-    if (linked_status == KESVUOT_REFUSED || status == KESVUOT_OK) {
-        CHECK(status == linked_status && is_same(&sealed, linked));
-    } else {
-        CHECK(is_sealed(sealed.rule));
-    }
-    reach(VERDICT + sealed.rule, sealed.place);
-    if (status == KESVUOT_REFUSED) {
-        check_explanation(file, size, &sealed);
-    }
+// By a number that no profile has, nothing is written.
+static void check_unknown_profile(const uint8_t *file, size_t size, uint32_t profile) {
+    struct kesvuot_verdict verdict;
+    memset(&verdict, UNWRITTEN, sizeof verdict);
+    CHECK(kesvuot_verify(file, size, profile, &verdict) == KESVUOT_UNKNOWN_PROFILE);
+    CHECK(is_unwritten((const uint8_t *)&verdict, sizeof verdict));
 }
 
-// The linked verdict of a file that is refused strictly is the same.
-static void check_linked(const uint8_t *file, size_t size, uint32_t strict_status,
-                         const struct kesvuot_verdict *strict) {
-    struct kesvuot_verdict linked;
-    memset(&linked, UNWRITTEN, sizeof linked);
-    uint32_t status = kesvuot_verify_linked(file, size, &linked);
-    check_verdict(status, &linked, size);
-    if (strict_status == KESVUOT_REFUSED || status == KESVUOT_OK) {
-        CHECK(status == strict_status && is_same(&linked, strict));
-    } else {
-        CHECK(is_linked(linked.rule));
+// The first profile that refuses the file does so by a rule of its own. The profiles after it have the same verdict.
+// Returns the last profile that accepts the file.
+static uint32_t check_verdicts(const uint8_t *file, size_t size, struct kesvuot_verdict *verdicts) {
+    uint32_t accepted = REFUSED;
+    memset(verdicts, UNWRITTEN, VERDICTS * sizeof *verdicts);
+    for (uint32_t profile = KESVUOT_LAYOUT; profile <= KESVUOT_SEALED; profile++) {
+        struct kesvuot_verdict *found = &verdicts[profile];
+        uint32_t status = kesvuot_verify(file, size, profile, found);
+        check_verdict(status, found, size);
+        if (accepted < profile - 1) {
+            CHECK(memcmp(found, found - 1, sizeof *found) == 0);
+        } else if (status == KESVUOT_OK) {
+            CHECK(found->slices == verdicts[KESVUOT_LAYOUT].slices);
+            accepted = profile;
+        } else {
+            CHECK(profile_of(found->rule) == profile);
+        }
+        reach(VERDICT + found->rule, found->place);
     }
-    reach(VERDICT + linked.rule, linked.place);
-    check_sealed(file, size, status, &linked);
-}
-
-// The strict verdict of a file that breaks another rule is the same.
-static enum accepted check_verdicts(const uint8_t *file, size_t size, struct kesvuot_verdict *verdict) {
-    struct kesvuot_verdict strict;
-    memset(verdict, UNWRITTEN, sizeof *verdict);
-    memset(&strict, UNWRITTEN, sizeof strict);
-    uint32_t status = kesvuot_verify(file, size, verdict);
-    check_verdict(status, verdict, size);
-    CHECK(!is_strict(verdict->rule));
-    uint32_t strict_status = kesvuot_verify_strictly(file, size, &strict);
-    check_verdict(strict_status, &strict, size);
-    if (status == KESVUOT_REFUSED || strict_status == KESVUOT_OK) {
-        CHECK(strict_status == status && is_same(verdict, &strict));
-    } else {
-        CHECK(is_strict(strict.rule));
-    }
-    reach(VERDICT + verdict->rule, verdict->place);
-    reach(VERDICT + strict.rule, strict.place);
-    check_linked(file, size, strict_status, &strict);
-    return status == KESVUOT_REFUSED ? REFUSED : strict_status == KESVUOT_OK ? ACCEPTED_STRICTLY : ACCEPTED;
+    check_unknown_profile(file, size, 0);
+    check_unknown_profile(file, size, KESVUOT_SEALED + 1);
+    return accepted;
 }
 
 static uint8_t *make_room(void);
@@ -1346,7 +1322,7 @@ static void check_text(const uint8_t *file, size_t size, uint32_t wanted, size_t
     CHECK(length == 0 || room < length || text[length - 1] == '\n');
 }
 
-static void check_layout(const uint8_t *file, size_t size, enum accepted accepted) {
+static void check_layout(const uint8_t *file, size_t size, uint32_t accepted) {
     size_t length = 1;
     uint32_t status = kesvuot_layout(file, size, NULL, 0, &length);
     CHECK(status == (accepted ? KESVUOT_OK : KESVUOT_REFUSED));
@@ -1358,11 +1334,13 @@ static void check_layout(const uint8_t *file, size_t size, enum accepted accepte
     check_text(file, size, status, length, length + 9);
 }
 
-static struct kesvuot_verdict check_file(const uint8_t *file, size_t size) {
-    struct kesvuot_verdict verdict;
-    enum accepted accepted = check_verdicts(file, size, &verdict);
-    uint64_t slices = accepted ? verdict.slices : 3;
-    reach(SLICES, verdict.slices);
+static void check_file(const uint8_t *file, size_t size, struct kesvuot_verdict *verdicts) {
+    uint32_t accepted = check_verdicts(file, size, verdicts);
+    uint64_t slices = accepted ? verdicts[KESVUOT_LAYOUT].slices : 3;
+    reach(SLICES, verdicts[KESVUOT_LAYOUT].slices);
+    if (accepted < KESVUOT_SEALED) {
+        check_explanation(file, size, &verdicts[KESVUOT_SEALED]);
+    }
     check_layout(file, size, accepted);
     for (uint64_t k = 0; k < slices && k < 99; k++) {
         check_slice(file, size, k, slices, accepted);
@@ -1370,7 +1348,6 @@ static struct kesvuot_verdict check_file(const uint8_t *file, size_t size) {
     check_slice(file, size, slices, slices, accepted);
     check_slice(file, size, (uint64_t)1 << 32, slices, accepted);
     check_slice(file, size, UINT64_MAX, slices, accepted);
-    return verdict;
 }
 
 // An architecture that has a name is the one that has it.
@@ -1381,6 +1358,21 @@ static void check_arch(uint32_t cputype, uint32_t cpusubtype) {
         CHECK(kesvuot_arch_named(name, strlen(name), &type, &subtype) == KESVUOT_OK);
         CHECK(type == cputype && subtype == cpusubtype);
     }
+}
+
+// The names of profiles and the profiles of rules.
+static void check_profiles(void) {
+    struct kesvuot_text name;
+    uint32_t profile = KESVUOT_LAYOUT;
+    for (; kesvuot_find_profile(profile, &name) == KESVUOT_OK; profile++) {
+        CHECK(name.size > 0 && name.size == strlen(name.at) && kesvuot_profile_name(profile) == name.at);
+    }
+    CHECK(profile == VERDICTS && name.size == 0);
+    CHECK(kesvuot_profile_name(0) == NULL && kesvuot_profile_name(UINT32_MAX) == NULL);
+    for (uint32_t rule = 0; rule < RULE_COUNT + 2; rule++) {
+        CHECK(kesvuot_rule_profile(rule) == profile_of(rule));
+    }
+    CHECK(kesvuot_rule_profile(UINT32_MAX) == 0);
 }
 
 // What depends on no file: the names of rules, whose numbers have no gap; and no bytes.
@@ -1403,8 +1395,10 @@ static void check_constants(void) {
         check_arch(KESVUOT_CPU_TYPE_X86_64, subtype);
         check_arch(KESVUOT_CPU_TYPE_ARM64, subtype);
     }
+    check_profiles();
     CHECK(kesvuot_version() == KESVUOT_VERSION && kesvuot_is_compatible());
-    CHECK(kesvuot_verify(NULL, 0, &verdict) == KESVUOT_REFUSED && verdict.rule == KESVUOT_MAGIC && verdict.place == 0);
+    CHECK(kesvuot_verify(NULL, 0, KESVUOT_SEALED, &verdict) == KESVUOT_REFUSED);
+    CHECK(verdict.rule == KESVUOT_MAGIC && verdict.place == 0);
     CHECK(kesvuot_read_image(NULL, 0, 0, &image) == KESVUOT_REFUSED);
     check_unread(&image, false);
 }
@@ -1419,6 +1413,7 @@ static uint8_t *make_room(void) {
 
 int LLVMFuzzerTestOneInput(const uint8_t *data, size_t size) {
     static uint8_t *room;
+    struct kesvuot_verdict first_verdicts[VERDICTS], last_verdicts[VERDICTS];
     if (room == NULL) {
         room = make_room();
         check_constants();
@@ -1431,12 +1426,12 @@ int LLVMFuzzerTestOneInput(const uint8_t *data, size_t size) {
     if (size > 0) {
         memcpy(room, data, size);
     }
-    struct kesvuot_verdict first_verdict = check_file(room, size);
+    check_file(room, size, first_verdicts);
     if (size > 0) {
         memcpy(last, data, size);
     }
-    struct kesvuot_verdict last_verdict = check_file(last, size);
-    CHECK(is_same(&first_verdict, &last_verdict));
+    check_file(last, size, last_verdicts);
+    CHECK(memcmp(first_verdicts, last_verdicts, sizeof first_verdicts) == 0);
     return 0;
 }
 

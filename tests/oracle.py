@@ -1,14 +1,14 @@
 #!/usr/bin/env python3
 """A second verifier of the layout of Mach-O files. It was written from docs/RULES.md, and from docs/COMMAND.md for what is
 printed. It reads the filetypes and the listed commands in the tables of docs/RULES.md. Nothing was taken from the
-sources of the first one. tests/oracle compares the two. It also judges the rules of docs/LINKED.md, as macho-linked
-does, and those of docs/SEALED.md, as macho-sealed does; tests/dyld loads what it accepts.
+sources of the first one. tests/oracle compares the two. It also judges the rules of docs/LINKED.md and docs/SEALED.md, as
+macho-verify does; tests/dyld loads what it accepts.
 
     tests/oracle.py FILE                        prints what `macho-check check FILE` prints, and ends with its status
     tests/oracle.py where FILE SLICE ADDRESS    the same for `macho-check where FILE SLICE ADDRESS`
-    tests/oracle.py --strict FILE               the same for `macho-strict check FILE`
-    tests/oracle.py --linked FILE               the same for `macho-linked check FILE`
-    tests/oracle.py --sealed FILE               the same for `macho-sealed check FILE`
+    tests/oracle.py --strict FILE               the same for `macho-verify strict FILE`
+    tests/oracle.py --linked FILE               the same for `macho-verify linked FILE`
+    tests/oracle.py --sealed FILE               the same for `macho-verify sealed FILE`
 
 It is written to be read beside docs/RULES.md, and has the same order. A rule is a function with its name. It yields
 each place at which the rule is broken. `first_broken` takes the rules one after the other, and of the first one that
@@ -2053,7 +2053,7 @@ def answer(words):
         return 2, "", "macho-check: bad number\n"
     path = words[0] if len(words) == 1 else words[1]
     profile = words[0].replace("--", "") if is_further else "layout"
-    program = words[0].replace("--", "macho-") if is_further else "macho-check"
+    program = "macho-verify" if is_further else "macho-check"
     try:
         with sys.stdin.buffer if path == "-" else open(path, "rb") as stream:
             data = stream.read()

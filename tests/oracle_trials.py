@@ -6,10 +6,9 @@ folders that are named, and mutants of the vectors and of all files. Mutant N of
 case it prints a line of three texts with tabs between them: the case, what was found, and what is wanted. For each
 disagreement it prints both answers on standard error, and keeps the file.
 
-With --strict the verdicts are those of the strict profile, and the program is macho-strict; with --linked those of the
-linked profile, of macho-linked, with the vectors of tests/linked.txt and mutants of tables as well; with --sealed those
-of the sealed profile, of macho-sealed, with the vectors of tests/sealed.txt and mutants of sealed files as well. These
-programs have no `where`, so nothing is asked of addresses.
+The program is macho-check. With --strict, --linked or --sealed it is macho-verify, which judges by that profile: by the
+linked one the vectors of tests/linked.txt and mutants of tables as well, and by the sealed one the vectors of
+tests/sealed.txt and mutants of sealed files as well. macho-verify has no `where`: nothing is asked of addresses then.
 """
 
 import argparse
@@ -29,6 +28,7 @@ sys.dont_write_bytecode = True
 import seal_mutants
 import table_mutants
 from support.files import signed_image
+from support.programs import MACHO_CHECK, MACHO_VERIFY, PROFILES
 
 TOP = os.path.dirname(os.path.dirname(os.path.abspath(__file__)))
 sys.path.insert(0, os.path.join(TOP, "bench"))
@@ -40,7 +40,8 @@ REAL = os.path.join(TOP, "tests", "real")
 BATCH = 50
 SHOWN = 20
 
-# What is asked of a file: its name in the reports, its bytes, and the words before and after its path.
+# What is asked of a file: its name in the reports, its bytes, and the words before and after its path. The word before
+# is `check` or a profile, for a verdict, or `where`.
 Question = namedtuple("Question", "name data before after")
 Difference = namedtuple("Difference", "question oracle program")
 # The differences, how often the oracle gave each kind of answer, and the answers of both to the questions.
@@ -283,8 +284,6 @@ LINKED_WAYS = {change_table: 300}
 SEALED_WAYS = {change_table: 50, seal: 200, change_seal: 900}
 WAYS_OF = {"layout": WAYS, "strict": {**WAYS, **STRICT_WAYS}, "linked": {**WAYS, **STRICT_WAYS, **LINKED_WAYS},
            "sealed": {**WAYS, **STRICT_WAYS, **SEALED_WAYS}}
-CRATES = {"layout": "macho_check", "strict": "macho_strict_check", "linked": "macho_linked_check",
-          "sealed": "macho_sealed_check"}
 # For the sealed profile a file with a signature is changed this many times as often as another.
 OFTEN = 20
 
@@ -335,10 +334,14 @@ def load(path, profile):
     module.check = functools.partial(module.check, profile=profile)
     return module
 
+def for_verdict(name, data, profile):
+    """The question for the verdict by a profile. By that of the layout macho-check answers."""
+    return Question(name, data, "check" if profile == "layout" else profile, ())
+
 def oracle_answer(oracle, question):
     """The status and the text of the oracle. That it fails is an answer too, which is never that of the program."""
     try:
-        if question.before == "check":
+        if question.before != "where":
             status, out, err = oracle.check(question.data)
         else:
             numbers = [oracle.number(word) for word in question.after]
@@ -387,7 +390,7 @@ def batch(bounds):
     """Makes and compares the mutants from a number up to another: of each the verdict, and then what is at addresses of
     most of those that the program accepts and of a few others."""
     mutants = [mutant(work.seed, number, work.corpus, work.weights, work.ways) for number in range(*bounds)]
-    verdicts = [Question("mutant %d of seed %d" % (number, work.seed), data, "check", ())
+    verdicts = [for_verdict("mutant %d of seed %d" % (number, work.seed), data, work.profile)
                 for number, (data, _) in zip(range(*bounds), mutants)]
     judged = compare(work.oracle, work.program, verdicts)
     if work.profile != "layout":
@@ -449,16 +452,17 @@ def says_verdict(answer, verdict):
         return status == 0 and text.startswith(b"accepted, slices ")
     return status == 1 and text.decode() == verdict + "\n"
 
+def up_to(profile):
+    """The profile, and those before it."""
+    return PROFILES[:PROFILES.index(profile) + 1]
+
 def read_all_vectors(profile):
     """The files of vectors, by their paths. Some are for one profile alone. A further profile is judged on the files of
     those before it too: of these it has the refusals, and which of their acceptances it has is not known by hand."""
     files = [(path, read_vectors(path)) for path in sorted(Path(DATA).glob("*.txt"))]
     if profile == "layout":
         return [(path, vectors) for path, vectors in files if not vectors[0].is_strict]
-    if profile in ("linked", "sealed"):
-        files.append((LINKED, read_vectors(LINKED)))
-    if profile == "sealed":
-        files.append((SEALED, read_vectors(SEALED)))
+    files += [(path, read_vectors(path)) for path in (LINKED, SEALED) if path.stem in up_to(profile)]
     return [(path, vectors if is_whole(path, profile) else list(map(without_acceptance, vectors)))
             for path, vectors in files]
 
@@ -476,7 +480,7 @@ def judge_vectors(report, oracle, program, profile):
     """Three are compared: what stands in the data, the oracle, and the program."""
     seen = Counter()
     for path, vectors in read_all_vectors(profile):
-        questions = [Question("%s: %s" % (path.name, vector.name), vector.data, "check", ()) for vector in vectors]
+        questions = [for_verdict("%s: %s" % (path.name, vector.name), vector.data, profile) for vector in vectors]
         judged = compare(oracle, program, questions)
         seen += judged.kinds
         report.agreeing("the vectors of " + path.name, judged.differences, len(questions), "answers")
@@ -486,14 +490,12 @@ def judge_vectors(report, oracle, program, profile):
         if not is_whole(path, profile):
             known = sum(vector.wanted != "" for vector in vectors)
         report.case("the verdicts of %s, by hand" % path.name, "%d verdicts" % right, "%d verdicts" % known)
-    rules = oracle.RULES_OF_THE_FILE + oracle.RULES_OF_AN_IMAGE
-    if profile != "layout":
-        rules += oracle.STRICT_RULES_OF_THE_FILE + oracle.STRICT_RULES_OF_AN_IMAGE
-    if profile in ("linked", "sealed"):
-        rules += oracle.LINKED_RULES_OF_AN_IMAGE
-    if profile == "sealed":
-        rules += oracle.SEALED_RULES_OF_AN_IMAGE
-    unbroken = " ".join({rule.__name__.replace("_", "-") for rule in rules} - set(seen))
+    rules = {"layout": oracle.RULES_OF_THE_FILE + oracle.RULES_OF_AN_IMAGE,
+             "strict": oracle.STRICT_RULES_OF_THE_FILE + oracle.STRICT_RULES_OF_AN_IMAGE,
+             "linked": oracle.LINKED_RULES_OF_AN_IMAGE,
+             "sealed": oracle.SEALED_RULES_OF_AN_IMAGE}
+    names = {rule.__name__.replace("_", "-") for each in up_to(profile) for rule in rules[each]}
+    unbroken = " ".join(names - set(seen))
     report.case("rules that no vector breaks first", unbroken or "none", "none")
 
 def agrees_by_hand(report, question, says, verdict):
@@ -506,7 +508,7 @@ def agrees_by_hand(report, question, says, verdict):
 def judge_reports(report, oracle, program):
     """The whole texts on accepted files, each written by hand from the bytes: three are compared."""
     reports = read_all_reports()
-    questions = [Question("the report %s" % name, data, "check", ()) for name, data, *_ in reports]
+    questions = [for_verdict("the report %s" % name, data, "layout") for name, data, *_ in reports]
     right = 0
     for question, vector in zip(questions, reports):
         says = oracle_answer(oracle, question)
@@ -517,9 +519,9 @@ def judge_reports(report, oracle, program):
     report.case("the reports, by hand", "%d texts" % right, "%d texts" % len(reports))
     report.agreeing("the reports", compare(oracle, program, questions).differences, len(questions), "answers")
 
-def judge_reports_further(report, oracle, program):
+def judge_reports_further(report, oracle, program, profile):
     """Two are compared: a further profile refuses some of the reports."""
-    questions = [Question("the report %s" % name, data, "check", ()) for name, data, *_ in read_all_reports()]
+    questions = [for_verdict("the report %s" % name, data, profile) for name, data, *_ in read_all_reports()]
     report.agreeing("the reports", compare(oracle, program, questions).differences, len(questions), "answers")
 
 def read_file(folder, name):
@@ -555,7 +557,7 @@ UNSIGNED = {"program": b"refused: signature-missing at 0x0\n", "library": b"refu
 def judge_real(report, oracle, program, profile):
     questions = []
     for name, data, layout in read_real():
-        questions.append(Question("the real " + name, data, "check", ()))
+        questions.append(for_verdict("the real " + name, data, profile))
         wanted = (1, UNSIGNED[name]) if profile == "sealed" else (0, layout)
         is_same = oracle_answer(oracle, questions[-1]) == wanted
         report.case("the answer to the real %s, by hand" % name, "the same" if is_same else "another", "the same")
@@ -586,7 +588,7 @@ def judge_bytes(report, oracle, program):
     for name, data, place, page, is_code in files_of_one_byte():
         changed = data[:place] + bytes((data[place] ^ 1,)) + data[place + 1:]
         broken = oracle.first_linked_broken(oracle.File(changed)) or ("signature-hash", place - place % page)
-        questions.append(Question(name, changed, "check", ()))
+        questions.append(for_verdict(name, changed, "sealed"))
         wanted.append((1, b"refused: %s at 0x%x\n" % (broken[0].encode(), broken[1])))
         code += is_code and broken[0] == "signature-hash"
     answers = program_answers(program, questions)
@@ -618,9 +620,9 @@ def read_folder(folder):
     names = sorted(name for name in os.listdir(folder) if os.path.isfile(os.path.join(folder, name)))
     return [(name, read_file(folder, name)) for name in names]
 
-def judge_folders(report, oracle, program, folders):
+def judge_folders(report, oracle, program, profile, folders):
     for folder in folders:
-        questions = [Question(name, data, "check", ()) for name, data in read_folder(folder)]
+        questions = [for_verdict(name, data, profile) for name, data in read_folder(folder)]
         report.agreeing(folder, compare(oracle, program, questions).differences, len(questions), "answers")
 
 def judge_mutants(report, count, jobs, only_first):
@@ -644,12 +646,9 @@ def judge_mutants(report, count, jobs, only_first):
 def main():
     global work  # pylint: disable=global-statement
     parser = argparse.ArgumentParser(prog="tests/oracle")
-    parser.add_argument("--strict", dest="profile", action="store_const", const="strict", default="layout",
-                        help="the strict profile, and macho-strict")
-    parser.add_argument("--linked", dest="profile", action="store_const", const="linked",
-                        help="the linked profile, and macho-linked")
-    parser.add_argument("--sealed", dest="profile", action="store_const", const="sealed",
-                        help="the sealed profile, and macho-sealed")
+    for name in PROFILES[1:]:
+        parser.add_argument("--" + name, dest="profile", action="store_const", const=name, default="layout",
+                            help="the %s profile, and macho-verify" % name)
     parser.add_argument("--seed", type=int, default=1, help="of the mutants; 1 otherwise")
     parser.add_argument("--count", type=int, default=3000, help="of the mutants; 3000 otherwise")
     parser.add_argument("--jobs", type=int, default=2, help="how many processes; 2 otherwise")
@@ -662,7 +661,7 @@ def main():
     words = parser.parse_args()
 
     profile = words.profile
-    program = words.program or os.path.join(TOP, "crates", CRATES[profile], "out", CRATES[profile])
+    program = words.program or (MACHO_CHECK if profile == "layout" else MACHO_VERIFY)
     oracle = load(words.oracle, profile)
     report = Report(words.keep)
     vectors = [vector for _, vectors in read_all_vectors(profile) for vector in vectors]
@@ -671,7 +670,8 @@ def main():
         real.append(signed_image())
     others = [data for folder in words.folders for _, data in read_folder(folder)]
     corpus = real + others + [vector.data for vector in vectors]
-    accepted = [True] * len(real) + [oracle_answer(oracle, Question("", data, "check", ()))[0] == 0 for data in others]
+    accepted = [True] * len(real)
+    accepted += [oracle_answer(oracle, for_verdict("", data, profile))[0] == 0 for data in others]
     accepted += [says_more(vector, profile) for vector in vectors]
     weights = [weight(data, good, profile) for data, good in zip(corpus, accepted)]
     work = argparse.Namespace(
@@ -680,11 +680,11 @@ def main():
     if not words.first:
         judge_vectors(report, oracle, program, profile)
         judge_real(report, oracle, program, profile)
-        judge_folders(report, oracle, program, words.folders)
+        judge_folders(report, oracle, program, profile, words.folders)
     if not words.first and profile == "sealed":
         judge_bytes(report, oracle, program)
     if not words.first and profile != "layout":
-        judge_reports_further(report, oracle, program)
+        judge_reports_further(report, oracle, program, profile)
     elif not words.first:
         judge_reports(report, oracle, program)
         judge_addresses(report, oracle, program)

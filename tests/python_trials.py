@@ -40,6 +40,7 @@ import oracle  # pylint: disable=wrong-import-position
 import oracle_trials  # pylint: disable=wrong-import-position
 import plain_dyld  # pylint: disable=wrong-import-position
 import table_mutants  # pylint: disable=wrong-import-position
+from support.programs import MACHO_VERIFY, PROFILES  # pylint: disable=wrong-import-position
 from support.rules import read_rules  # pylint: disable=wrong-import-position
 
 SHOWN = 20
@@ -92,26 +93,17 @@ class Report:
 # Verdicts and layouts
 
 
-JUDGES = {"layout": kesvuot.verify, "strict": lambda data: kesvuot.verify(data, strict=True),
-          "linked": kesvuot.verify_linked, "sealed": kesvuot.verify_sealed}
-
-
-def judge(data, profile):
-    """The file, if it is accepted by the profile."""
-    return JUDGES[profile](data)
-
-
 def answer(data, profile="layout"):
     """What the program would print: the status and the text."""
     try:
-        file = judge(data, profile)
+        file = kesvuot.verify(data, profile)
         return 0, sealed_layout(file) if profile == "sealed" else file.layout()
     except kesvuot.Refused as refused:
         return 1, f"refused: {refused.rule} at {refused.place:#x}\n"
 
 
 def sealed_layout(file):
-    """The layout with what macho-sealed prints besides: after the entry of each image the hashes of its directories."""
+    """What `macho-verify sealed` prints: the layout, with the cdhashes of each image after its entry."""
     images_left = iter(file.images)
     return "".join(line + ("".join(cdhash_lines(next(images_left))) if line.startswith("  entry ") else "")
                    for line in file.layout().splitlines(keepends=True))
@@ -130,16 +122,14 @@ def verdict(data, profile="layout"):
 
 
 def program_answers(files, profile):
-    name = oracle_trials.CRATES[profile]
-    program = TOP / "crates" / name / "out" / name
-    questions = [oracle_trials.Question(which, data, "check", ()) for which, data in files]
-    says = oracle_trials.program_answers(str(program), questions)
+    questions = [oracle_trials.Question(which, data, profile, ()) for which, data in files]
+    says = oracle_trials.program_answers(str(MACHO_VERIFY), questions)
     return [(status, text.decode("ascii")) for status, text in says]
 
 
 def judge_vectors(report):
-    """The verdicts are those that stand beside the vectors; the layouts, those of the programs."""
-    for profile in oracle_trials.CRATES:
+    """The verdicts are those that stand beside the vectors; the layouts, those of the program."""
+    for profile in PROFILES:
         for path, vectors in oracle_trials.read_all_vectors(profile):
             judge_by_hand(report, path.name, vectors, profile)
             if oracle_trials.is_whole(path, profile):
@@ -149,7 +139,7 @@ def judge_vectors(report):
 def explanation(data, profile):
     """The rule and the place of a refusal, and all that explains it; or None."""
     try:
-        judge(data, profile)
+        kesvuot.verify(data, profile)
     except kesvuot.Refused as refused:
         return refused.rule, refused.place, kesvuot.explain(data, refused)
     return None
@@ -169,7 +159,7 @@ def wanted_explanation(data, rule, place):
 
 def explain_vectors(report):
     """Each refusal is explained as tests/explanations.py works it out a second time, and each rule has one."""
-    found = [(vector.name, vector.data, explanation(vector.data, profile)) for profile in oracle.PROFILES
+    found = [(vector.name, vector.data, explanation(vector.data, profile)) for profile in PROFILES
              for _, vectors in oracle_trials.read_all_vectors(profile) for vector in vectors]
     report.alike("explanations", "refusals", ((name, said[2], wanted_explanation(data, *said[:2]))
                                               for name, data, said in found if said))
@@ -186,7 +176,7 @@ def judge_by_hand(report, name, vectors, profile):
 
 
 def compare_program(report, name, files, profile):
-    report.alike(f"what is said of {name}, and the program of the profile {profile}", "texts", (
+    report.alike(f"what is said of {name}, and the program by the profile {profile}", "texts", (
         (which, answer(data, profile), says)
         for (which, data), says in zip(files, program_answers(files, profile))))
 
@@ -933,11 +923,21 @@ def judge_names_of_numbers(report):
                 [None] * 4)
 
 
+def judge_profiles(report, data):
+    """The profile of each rule is that of the list. Without a profile there is no verdict."""
+    report.alike("the profiles of the rules", "rules", (
+        (rule.name, kesvuot.Refused(rule.name, 0).profile, rule.profile.lower()) for rule in read_rules()))
+    report.case("the profile of no rule", kesvuot.Refused("no-rule", 0).profile, None)
+    for name in ("", "none", "Strict", "strict\0", 2, True, None):
+        report.case(f"the profile {name!r}", kind_of_error(lambda name=name: kesvuot.verify(data, name)),
+                    ("ValueError", f"unknown profile {name!r}: choose from {', '.join(PROFILES)}"))
+
+
 def kind_of_error(call):
     """The error of a call that fails."""
     try:
         call()
-    except (OSError, kesvuot.Refused) as error:
+    except (OSError, ValueError, kesvuot.Refused) as error:
         return type(error).__name__, str(error)
     return None
 
@@ -951,7 +951,7 @@ def judge_paths(report, data):
             report.case(f"a file by a {type(form).__name__}", bytes(kesvuot.verify_file(form).data) == data, True)
         path.write_bytes(data + b"more")
         report.case("a longer file", kesvuot.verify_file(path).slice_count, 1)
-        report.case("a longer file, strictly", kind_of_error(lambda: kesvuot.verify_file(path, strict=True)),
+        report.case("a longer file, strictly", kind_of_error(lambda: kesvuot.verify_file(path, "strict")),
                     ("Refused", "stray-byte at 0x30f0"))
         path.write_bytes(b"")
         report.case("an empty file", kind_of_error(lambda: kesvuot.verify_file(path)), ("Refused", "magic at 0x0"))
@@ -1313,7 +1313,7 @@ def judge_memory(report):
 def judge_folders(report, folders):
     for folder in folders:
         files = oracle_trials.read_folder(folder)
-        for profile in oracle_trials.CRATES:
+        for profile in PROFILES:
             compare_program(report, folder, files, profile)
         compare_views(report, folder, [(name, data) for name, data in files if verdict(data) == "accepted"])
 
@@ -1338,6 +1338,7 @@ def main(words):
     judge_numbers(report, program)
     judge_lookups(report, program)
     judge_names_of_numbers(report)
+    judge_profiles(report, program)
     judge_paths(report, program)
     judge_sources(report, program)
     judge_texts_of_rows(report, program)

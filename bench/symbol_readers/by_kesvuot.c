@@ -51,7 +51,7 @@ static void read_file(const char *path, struct reading *reading) {
 // The verdict, and the images of all slices that are read.
 static void open_images(struct reading *reading) {
     struct kesvuot_verdict verdict;
-    if (kesvuot_verify(reading->bytes, reading->size, &verdict) != KESVUOT_OK) {
+    if (kesvuot_verify(reading->bytes, reading->size, KESVUOT_LAYOUT, &verdict) != KESVUOT_OK) {
         stop("the file is refused");
     }
     reading->image_count = 0;

@@ -7,12 +7,12 @@ mod steps;
 
 use std::error::Error;
 
-use kesvuot::{Image, Symbol};
+use kesvuot::{Image, Profile, Symbol};
 use steps::{Sums, Task};
 
 /// The verdict, and the images of all slices that are read.
 fn open_images(file: &[u8]) -> Result<Vec<Image<'_>>, Box<dyn Error>> {
-    Ok(kesvuot::verify(file)?.images().collect())
+    Ok(kesvuot::verify(file, Profile::Layout)?.images().collect())
 }
 
 fn add_symbol(symbol: &Symbol, length: usize, sums: &mut Sums) {

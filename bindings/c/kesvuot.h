@@ -3,7 +3,7 @@
  *     struct kesvuot_verdict verdict;
  *     struct kesvuot_image image;
  *     struct kesvuot_segment rows[16];
- *     if (kesvuot_verify(file, size, &verdict) == KESVUOT_OK &&
+ *     if (kesvuot_verify(file, size, KESVUOT_LAYOUT, &verdict) == KESVUOT_OK &&
  *         kesvuot_read_image(file, size, 0, &image) == KESVUOT_OK) {
  *         struct kesvuot_cursor cursor = {0}; // In C++ write {}
  *         size_t count;
@@ -27,12 +27,11 @@
  * - Each pointer is valid for as many bytes or rows as you pass. It may be null only if the size or count is 0.
  * - The memory that a call writes does not overlap the memory that it reads.
  *
- * A program works with every library that has the soname it was linked against. The number of a rule never changes: a
- * version that adds a rule gives it the next free number, wherever it is judged.
+ * A program works with every library that has the soname it was linked against. The number of a rule or a profile never
+ * changes: a version that adds a rule gives it the next free number, wherever it is judged.
  *
- * No call keeps state, prints, or ends the process, and any number of threads may call at once. Only kesvuot_verify,
- * kesvuot_verify_strictly, kesvuot_verify_linked, kesvuot_verify_sealed and kesvuot_layout allocate memory, with malloc
- * and realloc, and they free it before they return.
+ * No call keeps state, prints, or ends the process, and any number of threads may call at once. Only kesvuot_verify and
+ * kesvuot_layout allocate memory, with malloc and realloc, and they free it before they return.
  */
 #ifndef KESVUOT_H
 #define KESVUOT_H
@@ -69,9 +68,18 @@ enum {
     KESVUOT_OK = 0,
     KESVUOT_REFUSED = 1,   /* the bytes break a rule */
     KESVUOT_NO_MEMORY = 2, /* memory ran out: there is no verdict. kesvuot_verify says for which files this can be */
-    KESVUOT_NONE = 3,      /* there is no such rule, name, slice, command, table, symbol or address */
+    KESVUOT_NONE = 3,      /* there is no such rule, profile, name, slice, command, table, symbol or address */
     KESVUOT_UNREAD = 4,    /* the slice is 32-bit or big-endian: nothing in it is judged */
-    KESVUOT_ZERO = 5       /* the address is mapped, but to no byte of the file: a loader puts a zero there */
+    KESVUOT_ZERO = 5,      /* the address is mapped, but to no byte of the file: a loader puts a zero there */
+    KESVUOT_UNKNOWN_PROFILE = 6 /* no profile has the number that kesvuot_verify got */
+};
+
+/* The profiles, by which kesvuot_verify judges a file. No profile has the number 0. */
+enum {
+    KESVUOT_LAYOUT = 1,
+    KESVUOT_STRICT = 2,
+    KESVUOT_LINKED = 3,
+    KESVUOT_SEALED = 4
 };
 
 /* The rules, in the order in which this version judges them. RULES.md says when each is broken, what usually breaks it,
@@ -174,46 +182,38 @@ struct kesvuot_verdict {
     uint32_t reserved; /* 0 */
 };
 
-/* Judges a file by the rules of the file and of an image.
+/* Judges a file by the rules of a profile, after all rules of the profiles before it. A file that a profile accepts is
+ * also accepted by each profile before it.
+ * LAYOUT: a loader that follows the headers and checks no bounds reads only bytes of the slice. RULES.md explains the
+ * rules of the file and of an image.
+ * STRICT: every nonzero byte is accounted for, and no byte belongs to two elements, such as the headers, a section or a
+ * table. RULES.md explains the rules.
+ * LINKED: the rules judge where the linked data of an image lies; what the opcodes of LC_DYLD_INFO and
+ * LC_DYLD_INFO_ONLY, the table of LC_DYLD_CHAINED_FIXUPS and the chains of pointers in the pages ask a dynamic loader
+ * for; what the image exports; where functions start and data is in code; how a code signature is built; what symbols
+ * and relocations refer to; where threads begin; and what all other commands of loader.h hold. LINKED.md explains the
+ * rules.
+ * SEALED: each image has a code signature; each code directory has the hashes of all bytes before the signature and of
+ * the blobs in special slots; and each nonzero byte from the signature on is in the signature's header, its index or a
+ * blob. SEALED.md explains the rules. The profile does not say who signed, and it reads nothing outside of the file.
+ * The bytes before the signature are hashed for each code directory; an image has at most six.
+ *
  * OK: no rule is broken, and `slices` is set. REFUSED: `rule` is the first broken rule, and the file breaks it at
  * `place`. NO_MEMORY: there is no verdict. All other fields are 0.
- * Memory can run out only for a universal file, or for one whose mapped segments neither ascend nor descend by address.
- * For every other file there is a verdict, however little memory is left. */
-uint32_t kesvuot_verify(const void *file, size_t size, struct kesvuot_verdict *verdict);
-
-/* Judges a file as kesvuot_verify does, and then by the rules of the strict profile: every nonzero byte is accounted
- * for, and no byte belongs to two elements, such as the headers, a section or a table. RULES.md says what that means.
- * Every file that is OK here is also OK for kesvuot_verify.
- * Memory can run out wherever it can for kesvuot_verify. Otherwise it can run out only in a file that breaks no rule of
- * kesvuot_verify, and only if the slices do not ascend, or if in some slice the segments do not ascend by file offset,
- * or the elements do not, or a range is encrypted, or a byte 0x90 (a NOP) is in no element. */
-uint32_t kesvuot_verify_strictly(const void *file, size_t size, struct kesvuot_verdict *verdict);
-
-/* Judges a file as kesvuot_verify_strictly does, and then by the rules of the linked profile: where the linked data of
- * an image lies, what the opcodes of LC_DYLD_INFO and LC_DYLD_INFO_ONLY, the table of LC_DYLD_CHAINED_FIXUPS and the
- * chains of pointers in the pages ask a dynamic loader for, what the image exports, where functions start and data is
- * in code, how a code signature is built, what symbols and relocations refer to, where threads begin, and what all
- * other commands of loader.h hold. LINKED.md says what that means.
- * Every file that is OK here is also OK for kesvuot_verify_strictly.
- * Memory can run out wherever it can for kesvuot_verify_strictly. Otherwise it can run out only in a file that breaks
- * no rule of kesvuot_verify_strictly, and only if some slice has more than 16 mapped segments, several executable ones
- * that have bytes in the file, or an export trie. */
-uint32_t kesvuot_verify_linked(const void *file, size_t size, struct kesvuot_verdict *verdict);
-
-/* Judges a file as kesvuot_verify_linked does, and then by the rules of the sealed profile: each image has a code
- * signature; the hashes in each of its code directories are those of all bytes before the signature, and of the blobs
- * in special slots; and from the signature on, each byte that is not zero is in its header, its index or a blob.
- * SEALED.md says what that means, and what it does not: it does not say who signed, and nothing outside of the file
- * is read.
- * Every file that is OK here is also OK for kesvuot_verify_linked.
- * Memory can run out wherever it can for kesvuot_verify_linked, and nowhere else. The bytes before the signature are
- * hashed for each code directory; an image has six at most. */
-uint32_t kesvuot_verify_sealed(const void *file, size_t size, struct kesvuot_verdict *verdict);
+ * UNKNOWN_PROFILE: no profile has this number. Nothing is written.
+ *
+ * Memory can run out only for these files. For every other file there is a verdict, however little memory is left.
+ * LAYOUT: a universal file, or a file whose mapped segments neither ascend nor descend by address.
+ * STRICT: also a file that LAYOUT accepts, if the slices do not ascend, or if in some slice the segments do not ascend
+ * by file offset, the elements do not, a range is encrypted, or a byte 0x90 (a NOP) is in no element.
+ * LINKED and SEALED: also a file that STRICT accepts, if some slice has more than 16 mapped segments, several
+ * executable ones that have bytes in the file, or an export trie. */
+uint32_t kesvuot_verify(const void *file, size_t size, uint32_t profile, struct kesvuot_verdict *verdict);
 
 /* Writes the layout of an accepted file as text, as macho-check prints it: up to `max` bytes, from its first byte on.
  * Later bytes of `text` are unchanged, and no zero byte is added. `needed` is the length of the whole layout: if it is
  * more than max, call again with that much room. All bytes are printable ASCII or line feeds, whatever names the file
- * has. Each call judges the file again, as kesvuot_verify does, and allocates memory for the whole layout.
+ * has. Each call judges the file again, by the profile LAYOUT, and allocates memory for the whole layout.
  * OK: as much as fits is written. REFUSED: the file breaks a rule, which kesvuot_verify gives. NO_MEMORY: memory ran
  * out for the verdict or the layout. After REFUSED and NO_MEMORY `needed` is 0, and `text` is unchanged. */
 uint32_t kesvuot_layout(const void *file, size_t size, char *text, size_t max, size_t *needed);
@@ -232,6 +232,19 @@ uint32_t kesvuot_find_rule(uint32_t rule, struct kesvuot_text *name);
 static inline const char *kesvuot_rule_name(uint32_t rule) {
     struct kesvuot_text name;
     return kesvuot_find_rule(rule, &name) == KESVUOT_OK ? name.at : NULL;
+}
+
+/* The profile that a rule belongs to, or 0 if no rule has this number. */
+uint32_t kesvuot_rule_profile(uint32_t rule);
+
+/* The name of a profile: "layout", "strict", "linked" or "sealed".
+ * OK: the name is written. NONE: no profile has this number, and the name is empty: do not read through `at`. */
+uint32_t kesvuot_find_profile(uint32_t profile, struct kesvuot_text *name);
+
+/* The same as a string, or a null pointer if no profile has this number. */
+static inline const char *kesvuot_profile_name(uint32_t profile) {
+    struct kesvuot_text name;
+    return kesvuot_find_profile(profile, &name) == KESVUOT_OK ? name.at : NULL;
 }
 
 /* The name of the load commands with this cmd, such as "LC_SEGMENT_64", and of the platform of a build, such as
@@ -326,7 +339,7 @@ struct kesvuot_explanation {
 };
 
 /* Explains a refusal: what is at the place of the verdict, which parts conflict there, and which numbers. Pass the
- * bytes that were judged, by whichever call. LIBRARY.md of the source has a table of what each rule gives.
+ * bytes that were judged, by whichever profile. LIBRARY.md of the source has a table of what each rule gives.
  * A number of 2^64 or more is given as 2^64 - 1. A missing index is KESVUOT_NO_INDEX.
  * OK: all fields are written. NONE: no rule has the number `rule`, or nothing that the rule is about is at `place`, as
  * after OK. All indices are then KESVUOT_NO_INDEX, and all other fields 0.
@@ -586,14 +599,14 @@ size_t kesvuot_read_relocations(const void *file, size_t size, const struct kesv
  * one how far past `base` of the image. The functions end before a number 0, a number that does not end in the data or
  * in 10 bytes, an address of 2^64 or more, and at the end of the data. There are none if the image has no base. In a
  * file that was not accepted, there are also none if the data ends past the slice.
- * In a file that kesvuot_verify_linked accepts each is the address of a byte of the file, and no number is left out. In
+ * In a file that the linked profile accepts each is the address of a byte of the file, and no number is left out. In
  * any other one can be in no segment. Either way it can be in a segment that is not executable. */
 size_t kesvuot_read_function_starts(const void *file, size_t size, const struct kesvuot_image *image,
                                     struct kesvuot_cursor *cursor, uint64_t *rows, size_t max);
 
 /* The data in the code, by the first LC_DATA_IN_CODE: the entries that are whole. In a file that was not accepted,
  * there are none if the data of the command ends past the slice.
- * They can be in any order, and overlap. In a file that kesvuot_verify_linked accepts all entries are whole and of a
+ * They can be in any order, and overlap. In a file that the linked profile accepts all entries are whole and of a
  * known kind, and the bytes of each are in one executable segment. In any other they can be of no code. */
 size_t kesvuot_read_data_in_code(const void *file, size_t size, const struct kesvuot_image *image,
                                  struct kesvuot_cursor *cursor, struct kesvuot_data_in_code *rows, size_t max);
@@ -602,7 +615,7 @@ size_t kesvuot_read_data_in_code(const void *file, size_t size, const struct kes
  * superblob, past its index and past the blob before it. They end before the first of which this does not hold. There
  * are none if the data has no superblob with the magic CSMAGIC_EMBEDDED_SIGNATURE (0xfade0cc0) that ends in it. In a
  * file that was not accepted, there are also none if the data ends past the slice.
- * In a file that kesvuot_verify_linked accepts no blob of the index is left out. */
+ * In a file that the linked profile accepts no blob of the index is left out. */
 size_t kesvuot_read_blobs(const void *file, size_t size, const struct kesvuot_image *image,
                           struct kesvuot_cursor *cursor, struct kesvuot_blob *rows, size_t max);
 
@@ -610,9 +623,9 @@ size_t kesvuot_read_blobs(const void *file, size_t size, const struct kesvuot_im
  * OK: all fields are written.
  * NONE: the blob has another magic, a version below 0x20000, fewer bytes than the fields of its version, or a scatter
  * vector. All fields are 0.
- * In a file that kesvuot_verify_linked accepts each blob in a slot of code directories (0, 0x1000 to 0x1004) is one.
+ * In a file that the linked profile accepts each blob in a slot of code directories (0, 0x1000 to 0x1004) is one.
  * Its names and hashes lie in it, hash_type is known, and `limit` is where the signature begins in the slice, so there
- * is a hash for each page before that. That the pages have these hashes is what kesvuot_verify_sealed judges. */
+ * is a hash for each page before that. That the pages have these hashes is what the sealed profile judges. */
 uint32_t kesvuot_read_code_directory(const void *file, size_t size, const struct kesvuot_blob *blob,
                                      struct kesvuot_code_directory *directory);
 
@@ -620,8 +633,8 @@ uint32_t kesvuot_read_code_directory(const void *file, size_t size, const struct
  * directory's own type of hashes. Neither the slot of the blob matters, nor what the directory says of the code.
  * OK: all fields are written.
  * NONE: kesvuot_read_code_directory returns NONE for the blob, or its hash_type is not known. All fields are 0.
- * In a file that kesvuot_verify_linked accepts each blob in a slot of code directories has one. It names the bytes of
- * the directory alone: that the pages have the hashes in it is what kesvuot_verify_sealed judges.
+ * In a file that the linked profile accepts each blob in a slot of code directories has one. It names the bytes of
+ * the directory alone: that the pages have the hashes in it is what the sealed profile judges.
  * The call takes time in proportion to the size of the blob, and no memory. */
 uint32_t kesvuot_read_cdhash(const void *file, size_t size, const struct kesvuot_blob *blob,
                              struct kesvuot_cdhash *cdhash);
@@ -683,7 +696,7 @@ uint32_t kesvuot_find_name(const void *file, size_t size, const struct kesvuot_i
  *
  * What an image offers to other images under a name, by its export trie. Only the linked profile judges the trie. */
 
-struct kesvuot_export {       /* an export. Only kesvuot_verify_linked judges its fields */
+struct kesvuot_export {       /* an export. Only the linked profile judges its fields */
     uint64_t flags;           /* EXPORT_SYMBOL_FLAGS_..: any number. With the mask KIND_MASK it is a regular symbol (0),
                                  a thread-local one (1) or an absolute one (2) */
     uint64_t address;         /* before any slide: the sum of the base and a number of the trie, modulo 2^64, but of an
@@ -721,16 +734,16 @@ uint32_t kesvuot_find_export_trie(const void *file, size_t size, const struct ke
  * name of each is made of the labels on the way to its node. The walk is that of the caller, who keeps which nodes are
  * left, and the labels that lead to them. docs/LIBRARY.md has one.
  *
- * A node reaches from its offset to the `place` of its cursor past its last edge. In a file that kesvuot_verify_linked
+ * A node reaches from its offset to the `place` of its cursor past its last edge. In a file that the linked profile
  * accepts, the nodes that are met, each as often as it is met, have no more bytes than the trie. In any other an edge
  * can lead back, and two can lead to one node: there a caller adds up the bytes of the nodes, and stops where they are
  * more than those of the trie. */
 
-struct kesvuot_export_node {       /* a node of an export trie. Only kesvuot_verify_linked judges it */
+struct kesvuot_export_node {       /* a node of an export trie. Only the linked profile judges it */
     struct kesvuot_export exported; /* what the name that ends here is exported as, if has_export is 1. Otherwise 0 */
     struct kesvuot_span terminal;  /* the bytes that say so. None if no name ends here */
     struct kesvuot_cursor edges;   /* the cursor of the first edge, for kesvuot_read_export_edges: `place` is the offset
-                                      of the edge in the trie, and `items` is how many edges the node has, at most 255 */
+                                      of the edge in the trie, and `items` how many edges the node has, at most 255 */
     uint32_t has_export;           /* 0: no name ends here, or a number or name of its export does not end in the bytes
                                       of `terminal` */
     uint32_t reserved;
@@ -749,9 +762,10 @@ struct kesvuot_export_edge {    /* an edge of a node */
 uint32_t kesvuot_read_export_node(const void *file, size_t size, const struct kesvuot_image *image,
                                   const struct kesvuot_span *trie, uint64_t offset, struct kesvuot_export_node *node);
 
-/* The edges of a node, from its cursor on, in batches as of the tables of an image: it writes the next ones, up to `max`,
- * moves the cursor past them, and returns how many it wrote. It stops before one whose label or number does not end in
- * the trie: then `items` of the cursor is not 0, and fewer than max were written. All zeros are a cursor of no edges. */
+/* The edges of a node, from its cursor on, in batches as of the tables of an image: it writes the next ones, up to
+ * `max`, moves the cursor past them, and returns how many it wrote. It stops before one whose label or number does not
+ * end in the trie: then `items` of the cursor is not 0, and fewer than max were written. All zeros are a cursor of no
+ * edges. */
 size_t kesvuot_read_export_edges(const void *file, size_t size, const struct kesvuot_span *trie,
                                  struct kesvuot_cursor *cursor, struct kesvuot_export_edge *rows, size_t max);
 
@@ -806,7 +820,7 @@ uint32_t kesvuot_find_source_version(const void *file, size_t size, const struct
  * NONE: the image has no such command, its states do not end where it ends, not exactly one of them has registers that
  * are known for the cputype, or the file has no byte that can be executed at the address. In a file that was not
  * accepted, also if the headers break a rule. The entry is 0.
- * In a file that kesvuot_verify_linked accepts, each image with such a command has the address, and no second thread.
+ * In a file that the linked profile accepts, each image with such a command has the address, and no second thread.
  * In any other a loader may obey another thread. */
 uint32_t kesvuot_find_thread_entry(const void *file, size_t size, const struct kesvuot_image *image, uint64_t *entry);
 

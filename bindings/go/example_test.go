@@ -13,7 +13,7 @@ func ExampleVerify() {
 		fmt.Println(err)
 		return
 	}
-	file, err := kesvuot.Verify(bytes)
+	file, err := kesvuot.Verify(bytes, kesvuot.Layout)
 	if err != nil {
 		fmt.Println(err)
 		return
@@ -32,7 +32,7 @@ func ExampleVerify() {
 }
 
 func ExampleRefused() {
-	_, err := kesvuot.Verify([]byte("no image"))
+	_, err := kesvuot.Verify([]byte("no image"), kesvuot.Strict)
 	fmt.Println(err)
 	// Output: refused: magic at 0x0
 }

@@ -73,9 +73,8 @@ type Explanation struct {
 	Slice, Command, Section, Symbol uint32
 }
 
-// Explain explains a refusal of these bytes, by whichever call. The file is not judged again. It returns false if the
-// refusal is not one of these bytes, as far as that is seen: no rule has the name, or nothing that the rule is about is
-// at the place.
+// Explain says why a profile refuses a file, which is not judged again. It returns false if it sees that other bytes
+// were refused: no rule has the name, or nothing that the rule is about is at the place.
 func Explain(file []byte, refused *Refused) (Explanation, bool) {
 	return explain(file, refused)
 }

@@ -24,10 +24,10 @@ type waitingNode struct {
 	label  span
 }
 
-// Exports iterates over what the image exports, by a walk over the export trie. In a file that VerifyLinked accepts
-// these are all. In any other the walk ends before a node that does not end in the trie, or with which the nodes that
-// were met have more bytes than the trie, and it leaves out what is no export. There the names can be together far
-// longer than the trie: a program that keeps them adds up their sizes.
+// Exports iterates over what the image exports, by a walk over the export trie. In a file that the linked profile
+// accepts these are all. In any other the walk ends before a node that does not end in the trie, or with which the
+// nodes that were met have more bytes than the trie, and it leaves out what is no export. There the names can be
+// together far longer than the trie: a program that keeps them adds up their sizes.
 func (image *Image) Exports() *Exports {
 	trie, ok := findExportTrie(image)
 	exports := &Exports{image: image, trie: trie, left: uint64(trie.size)}

@@ -54,16 +54,6 @@ func atLeastOne(bytes []byte) []byte {
 	return bytes
 }
 
-// A profile is a set of rules that one call judges. Each has those of the ones before it.
-type profile int
-
-const (
-	byLayout profile = iota
-	strictly
-	linked
-	sealed
-)
-
 // checkVersion panics if the structures here are not those of the library.
 func checkVersion() {
 	if found, _, _ := LibraryVersion(); found != major {
@@ -71,46 +61,49 @@ func checkVersion() {
 	}
 }
 
-func judge(file []byte, rules profile) (*File, error) {
+func judge(file []byte, profile Profile) (*File, error) {
 	checkVersion()
 	bytes, size := atLeastOne(file), C.size_t(len(file))
 	var verdict C.struct_kesvuot_verdict
-	var status C.uint32_t
-	switch rules {
-	case strictly:
-		status = C.kesvuot_verify_strictly(unsafe.Pointer(&bytes[0]), size, &verdict)
-	case linked:
-		status = C.kesvuot_verify_linked(unsafe.Pointer(&bytes[0]), size, &verdict)
-	case sealed:
-		status = C.kesvuot_verify_sealed(unsafe.Pointer(&bytes[0]), size, &verdict)
-	default:
-		status = C.kesvuot_verify(unsafe.Pointer(&bytes[0]), size, &verdict)
-	}
-	switch status {
+	switch C.kesvuot_verify(unsafe.Pointer(&bytes[0]), size, C.uint32_t(profile), &verdict) {
 	case C.KESVUOT_OK:
 		return &File{bytes: file, sliceCount: int(verdict.slices)}, nil
 	case C.KESVUOT_REFUSED:
-		return nil, &Refused{Rule: ruleName(verdict.rule), Place: uint64(verdict.place)}
+		return nil, &Refused{Rule: ruleWith(verdict.rule), Place: uint64(verdict.place)}
+	case C.KESVUOT_UNKNOWN_PROFILE:
+		return nil, ErrProfile
 	default:
 		return nil, ErrMemory
 	}
 }
 
-// ruleName returns the name of a rule, which is a constant of the library.
-func ruleName(rule C.uint32_t) string {
+// String returns the name of the profile, such as "strict", or "" if no profile has the number.
+func (profile Profile) String() string {
 	var name C.struct_kesvuot_text
-	C.kesvuot_find_rule(rule, &name)
+	C.kesvuot_find_profile(C.uint32_t(profile), &name)
 	return C.GoStringN(name.at, C.int(name.size))
 }
 
-// ruleNumber returns the number of the rule with this name, or 0 if no rule has it.
-func ruleNumber(name string) C.uint32_t {
-	for rule := C.uint32_t(1); ; rule++ {
-		switch ruleName(rule) {
-		case name:
-			return rule
+// Profile returns the profile that the rule belongs to, or 0 if the library has no such rule.
+func (rule Rule) Profile() Profile {
+	return Profile(C.kesvuot_rule_profile(rule.number()))
+}
+
+// ruleWith returns the rule with this number, whose name is a constant of the library, or "" if no rule has the number.
+func ruleWith(number C.uint32_t) Rule {
+	var name C.struct_kesvuot_text
+	C.kesvuot_find_rule(number, &name)
+	return Rule(C.GoStringN(name.at, C.int(name.size)))
+}
+
+// number returns the number of the rule, or 0 if the library has no such rule.
+func (rule Rule) number() C.uint32_t {
+	for number := C.uint32_t(1); ; number++ {
+		switch ruleWith(number) {
 		case "":
 			return 0
+		case rule:
+			return number
 		}
 	}
 }
@@ -118,7 +111,7 @@ func ruleNumber(name string) C.uint32_t {
 func explain(file []byte, refused *Refused) (Explanation, bool) {
 	checkVersion()
 	bytes, size := atLeastOne(file), C.size_t(len(file))
-	verdict := C.struct_kesvuot_verdict{place: C.uint64_t(refused.Place), rule: ruleNumber(refused.Rule)}
+	verdict := C.struct_kesvuot_verdict{place: C.uint64_t(refused.Place), rule: refused.Rule.number()}
 	var found C.struct_kesvuot_explanation
 	if C.kesvuot_explain(unsafe.Pointer(&bytes[0]), size, &verdict, &found) != C.KESVUOT_OK {
 		return Explanation{}, false
@@ -188,7 +181,7 @@ func readLayout(file []byte) (string, error) {
 		status := C.kesvuot_layout(unsafe.Pointer(&file[0]), C.size_t(len(file)), (*C.char)(unsafe.Pointer(&text[0])),
 			room, &needed)
 		if status != C.KESVUOT_OK {
-			_, err := judge(file, byLayout)
+			_, err := judge(file, Layout)
 			if err == nil {
 				err = ErrMemory
 			}

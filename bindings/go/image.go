@@ -83,8 +83,8 @@ func (image *Image) Entry() (address uint64, ok bool) {
 
 // ThreadEntry returns the address at which the first LC_THREAD or LC_UNIXTHREAD begins, such as that of a program that
 // Go links. It is not ok if there is no such command, its registers are not known, or the file has no byte that can be
-// executed at the address. In a file that VerifyLinked accepts each image with such a command has the address. Each
-// call rescans the load commands.
+// executed at the address. In a file that the linked profile accepts each image with such a command has the address.
+// Each call rescans the load commands.
 func (image *Image) ThreadEntry() (address uint64, ok bool) {
 	return readThreadEntry(image)
 }

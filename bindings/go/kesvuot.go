@@ -1,6 +1,6 @@
 // Package kesvuot judges the layout of Mach-O files, and reads the parts of an accepted file.
 //
-//	file, err := kesvuot.Verify(bytes)
+//	file, err := kesvuot.Verify(bytes, kesvuot.Layout)
 //	if err != nil {
 //		return err // such as "refused: segment-file at 0x198"
 //	}
@@ -38,11 +38,40 @@ import (
 // ErrMemory says that memory ran out. There is no verdict, and nothing is claimed about the file.
 var ErrMemory = errors.New("out of memory")
 
+// ErrProfile says that no profile has the number that Verify got. The file is not judged.
+var ErrProfile = errors.New("unknown profile")
+
+// A Profile is a set of rules by which a file is judged. Its number never changes, and no profile has the number 0.
+type Profile uint32
+
+// The profiles. Each judges the rules of the profiles before it, and then its own. A file that a profile accepts is
+// also accepted by each profile before it.
+const (
+	// Layout judges where the parts that the headers describe lie. RULES.md explains its rules.
+	Layout Profile = 1
+	// Strict refuses nonzero bytes that no header accounts for, and bytes that belong to two elements, such as the
+	// headers, a section or a table. RULES.md explains its rules.
+	Strict Profile = 2
+	// Linked judges where the linked data of an image lies; what the opcodes of LC_DYLD_INFO and LC_DYLD_INFO_ONLY, the
+	// table of LC_DYLD_CHAINED_FIXUPS and the chains of pointers in the pages ask a dynamic loader for; what the image
+	// exports; where functions start and data is in code; how a code signature is built; what symbols and relocations
+	// refer to; where threads begin; and what all other commands of loader.h hold. LINKED.md explains its rules.
+	Linked Profile = 3
+	// Sealed judges whether each image has a code signature, whether each code directory has the hashes of all bytes
+	// before the signature and of the blobs in special slots, and whether each nonzero byte from the signature on is in
+	// the signature's header, its index or a blob. SEALED.md explains its rules. The profile does not say who signed, and
+	// it reads nothing outside of the file.
+	Sealed Profile = 4
+)
+
+// A Rule is the name of a rule, such as "section-file". RULES.md, LINKED.md and SEALED.md explain each rule under its
+// name.
+type Rule string
+
 // Refused says that a file breaks a rule.
 type Refused struct {
-	// Rule is the name of the first broken rule, such as "section-file". RULES.md, LINKED.md and SEALED.md explain each
-	// rule under its name.
-	Rule string
+	// Rule is the first broken rule.
+	Rule Rule
 	// Place is the least offset in the file at which the rule is broken.
 	Place uint64
 }
@@ -51,49 +80,23 @@ func (refused *Refused) Error() string {
 	return fmt.Sprintf("refused: %s at %#x", refused.Rule, refused.Place)
 }
 
-// Verify judges a file by the rules of the layout. The error is a *Refused, or ErrMemory.
-func Verify(file []byte) (*File, error) {
-	return judge(file, byLayout)
-}
-
-// VerifyStrictly judges a file by the rules of the strict profile too: every nonzero byte is accounted for, and no byte
-// belongs to two elements, such as the headers, a section or a table. RULES.md says what that means. Whatever is
-// accepted here is accepted by Verify. The error is a *Refused, or ErrMemory.
-func VerifyStrictly(file []byte) (*File, error) {
-	return judge(file, strictly)
-}
-
-// VerifyLinked judges a file by the rules of the linked profile too, after those of VerifyStrictly: where the linked
-// data of an image lies, what the opcodes of LC_DYLD_INFO and LC_DYLD_INFO_ONLY, the table of LC_DYLD_CHAINED_FIXUPS
-// and the chains of pointers in the pages ask a dynamic loader for, what the image exports, where functions start and
-// data is in code, how a code signature is built, what symbols and relocations refer to, where threads begin, and what
-// all other commands of loader.h hold. LINKED.md says what that means. Whatever is accepted here is accepted by
-// VerifyStrictly. The error is a *Refused, or ErrMemory.
-func VerifyLinked(file []byte) (*File, error) {
-	return judge(file, linked)
-}
-
-// VerifySealed judges a file by the rules of the sealed profile too, after those of VerifyLinked: each image has a code
-// signature; the hashes in each of its code directories are those of all bytes before the signature, and of the blobs
-// in special slots; and from the signature on, each byte that is not zero is in its header, its index or a blob.
-// SEALED.md says what that means, and what it does not: it does not say who signed, and nothing outside of the file is
-// read. Whatever is accepted here is accepted by VerifyLinked. The error is a *Refused, or ErrMemory.
-func VerifySealed(file []byte) (*File, error) {
-	return judge(file, sealed)
+// Verify judges a file by the rules of a profile. The error is a *Refused, ErrMemory, or ErrProfile if no profile has
+// the number.
+func Verify(file []byte, profile Profile) (*File, error) {
+	return judge(file, profile)
 }
 
 // The most bytes of a file that is read. macho-check has the same limit.
 const limit = 1 << 32
 
 // VerifyFile reads a file into memory, and judges it as Verify does. Links are followed. A folder, a pipe, a socket or
-// a device is not read, and neither is a file of more than 4 GiB. The error is a *Refused, ErrMemory, or one of
-// reading. For the other profiles judge the Bytes of the result.
-func VerifyFile(path string) (*File, error) {
+// a device is not read, and neither is a file of more than 4 GiB. The error is one of Verify, or one of reading.
+func VerifyFile(path string, profile Profile) (*File, error) {
 	bytes, err := readFile(path, limit)
 	if err != nil {
 		return nil, err
 	}
-	return Verify(bytes)
+	return Verify(bytes, profile)
 }
 
 // readFile returns the bytes of a regular file, of which there are no more than the limit.

@@ -28,11 +28,19 @@ func readReal(t testing.TB, name string) []byte {
 
 func verified(t testing.TB, bytes []byte) *File {
 	t.Helper()
-	file, err := Verify(bytes)
+	file, err := Verify(bytes, Layout)
 	if err != nil {
 		t.Fatal(err)
 	}
 	return file
+}
+
+// profiles returns all profiles.
+func profiles() (all []Profile) {
+	for profile := Layout; profile.String() != ""; profile++ {
+		all = append(all, profile)
+	}
+	return all
 }
 
 // same compares what was found with what is wanted.
@@ -56,44 +64,75 @@ func TestVersion(t *testing.T) {
 }
 
 func TestRefused(t *testing.T) {
-	_, err := Verify(readReal(t, "program")[:12000])
+	_, err := Verify(readReal(t, "program")[:12000], Layout)
 	var refused *Refused
 	if !errors.As(err, &refused) {
 		t.Fatalf("found %v", err)
 	}
 	same(t, "a file that was cut", *refused, Refused{"segment-file", 0x198})
 	same(t, "its text", err.Error(), "refused: segment-file at 0x198")
-	for _, empty := range [][]byte{nil, {}} {
-		_, err = Verify(empty)
-		same(t, "no bytes", err, error(&Refused{"magic", 0}))
-	}
-	longer := append(readReal(t, "program"), "more"...)
-	verified(t, longer)
-	_, err = VerifyStrictly(longer)
-	same(t, "bytes after the end, strictly", err, error(&Refused{"stray-byte", 0x30f0}))
-	if _, err = VerifyStrictly(longer[:len(longer)-4]); err != nil {
-		t.Errorf("the program, strictly: %v", err)
-	}
 }
 
-// No opcode of the bind stream, which begins at 0x3008, is 0xd0.
-func TestRefusedLinked(t *testing.T) {
-	changed := readReal(t, "program")
-	if _, err := VerifyLinked(changed); err != nil {
-		t.Errorf("the program: %v", err)
+// changed returns a copy of a file, with another byte at a place.
+func changed(file []byte, place int, value byte) []byte {
+	file = append([]byte(nil), file...)
+	file[place] = value
+	return file
+}
+
+// Each file is accepted by the profiles before one, and refused by this one and those after it.
+func TestProfiles(t *testing.T) {
+	program, library := readReal(t, "program"), readReal(t, "library")
+	// Of the two images of the library the first, at 0x30, is not signed. The pages of the second have 4096 bytes: the
+	// last begins at 0x4000, and ends where the signature begins, at 0x4060.
+	signed := verified(t, library).Images()[1].Bytes
+	longer := append(readReal(t, "program"), "more"...)
+	for _, trial := range []struct {
+		what    string
+		file    []byte
+		profile Profile
+		refused Refused
+	}{
+		{"nil", nil, Layout, Refused{"magic", 0}},
+		{"no bytes", []byte{}, Layout, Refused{"magic", 0}},
+		{"bytes after the end", longer, Strict, Refused{"stray-byte", 0x30f0}},
+		// The bind stream begins at 0x3008. No opcode is 0xd0.
+		{"an opcode that is not known", changed(program, 0x3008, 0xd0), Linked, Refused{"bind-opcode", 0x3008}},
+		{"a program that is not signed", program, Sealed, Refused{"signature-missing", 0}},
+		{"a library that is not signed", library, Sealed, Refused{"signature-missing", 0x30}},
+		// A constant in the first page, and a letter of a name in the last
+		{"a changed first page", changed(signed, 0x2a8, signed[0x2a8]^2), Sealed, Refused{"signature-hash", 0}},
+		{"a changed last page", changed(signed, 0x404a, signed[0x404a]^2), Sealed, Refused{"signature-hash", 0x4000}},
+	} {
+		for _, profile := range profiles() {
+			var wanted error
+			if profile >= trial.profile {
+				wanted = &trial.refused
+			}
+			_, err := Verify(trial.file, profile)
+			same(t, fmt.Sprintf("%s, %v", trial.what, profile), err, wanted)
+		}
+		same(t, "the profile of the rule, "+trial.what, trial.refused.Rule.Profile(), trial.profile)
 	}
-	changed[0x3008] = 0xd0
-	if _, err := VerifyStrictly(changed); err != nil {
-		t.Errorf("the changed program, strictly: %v", err)
+	_, err := Verify(signed, Sealed)
+	same(t, "a signed image", err, nil)
+}
+
+func TestNoProfile(t *testing.T) {
+	same(t, "all profiles", fmt.Sprint(profiles()), "[layout strict linked sealed]")
+	for _, none := range []Profile{0, Sealed + 1, 1<<32 - 1} {
+		file, err := Verify(readReal(t, "program"), none)
+		same(t, "a number of no profile", []any{file, err, none.String()}, []any{(*File)(nil), ErrProfile, ""})
 	}
-	_, err := VerifyLinked(changed)
-	same(t, "an opcode that is not known", err, error(&Refused{"bind-opcode", 0x3008}))
+	for _, none := range []Rule{"", "no-rule"} {
+		same(t, "the profile of no rule", none.Profile(), Profile(0))
+	}
 }
 
 func TestExplain(t *testing.T) {
 	// The LC_SEGMENT_64 of __DATA, whose bytes end past the file that was cut.
 	cut := readReal(t, "program")[:12000]
-	_, err := Verify(cut)
+	_, err := Verify(cut, Layout)
 	var refused *Refused
 	if !errors.As(err, &refused) {
 		t.Fatalf("found %v", err)
@@ -108,7 +147,7 @@ func TestExplain(t *testing.T) {
 	same(t, "the other indices", []uint32{found.Slice, found.Section, found.Symbol}, []uint32{0, NoIndex, NoIndex})
 	for _, other := range []*Refused{{"section-file", 0x198}, {"no-rule", 0}, {"magic", 1}} {
 		_, ok = Explain(cut, other)
-		same(t, other.Rule, ok, false)
+		same(t, string(other.Rule), ok, false)
 	}
 	found, ok = Explain(nil, &Refused{"magic", 0})
 	same(t, "no bytes", fmt.Sprint(found.At.Kind == Magic, found.At.Size, ok), "true 0 true")
@@ -316,16 +355,18 @@ func TestNames(t *testing.T) {
 
 func TestFilesByTheirPaths(t *testing.T) {
 	path := filepath.Join(real, "program")
-	file, err := VerifyFile(path)
+	file, err := VerifyFile(path, Strict)
 	same(t, "a file", []any{file.Bytes(), err}, []any{readReal(t, "program"), error(nil)})
 	folder := t.TempDir()
 	none, text := filepath.Join(folder, "none"), filepath.Join(folder, "text")
 	if err := os.WriteFile(text, []byte("no image"), 0o600); err != nil {
 		t.Fatal(err)
 	}
-	_, err = VerifyFile(text)
+	_, err = VerifyFile(text, Strict)
 	same(t, "no image", err, error(&Refused{"magic", 0}))
-	_, err = VerifyFile(none)
+	_, err = VerifyFile(path, 0)
+	same(t, "no profile", err, ErrProfile)
+	_, err = VerifyFile(none, Layout)
 	same(t, "no file", errors.Is(err, os.ErrNotExist), true)
 	_, err = readFile(text, 7)
 	same(t, "a long file", err.Error(), "read "+text+": more than 7 bytes")
@@ -334,7 +375,7 @@ func TestFilesByTheirPaths(t *testing.T) {
 		t.Fatal(err)
 	}
 	for _, path := range []string{folder, pipe, os.DevNull} {
-		_, err = VerifyFile(path)
+		_, err = VerifyFile(path, Layout)
 		same(t, path, err.Error(), "read "+path+": not a regular file")
 	}
 }
@@ -783,7 +824,7 @@ func TestGoroutines(t *testing.T) {
 		go func() {
 			defer group.Done()
 			for round := 0; round < 50; round++ {
-				file, err := Verify(program)
+				file, err := Verify(program, Layout)
 				if err != nil {
 					t.Error(err)
 					return
@@ -797,17 +838,15 @@ func TestGoroutines(t *testing.T) {
 	group.Wait()
 }
 
-// The files of the vectors, with their verdicts. tests/go makes them, and a list with a line for each: a verdict, a tab
-// and a path.
+// The files of the vectors, with their verdicts. tests/go makes them, and a list for each profile, with a line for each
+// file: a verdict, a tab and a path.
 func TestVectors(t *testing.T) {
 	list := os.Getenv("KESVUOT_TRIALS")
 	if list == "" {
 		t.Skip("it needs KESVUOT_TRIALS")
 	}
-	for name, judge := range map[string]func([]byte) (*File, error){
-		"vectors": Verify, "strict-vectors": VerifyStrictly, "linked-vectors": VerifyLinked,
-		"sealed-vectors": VerifySealed} {
-		lines, err := os.ReadFile(filepath.Join(list, name))
+	for _, profile := range profiles() {
+		lines, err := os.ReadFile(filepath.Join(list, profile.String()))
 		if err != nil {
 			t.Fatal(err)
 		}
@@ -819,7 +858,7 @@ func TestVectors(t *testing.T) {
 			if err != nil {
 				t.Fatal(err)
 			}
-			file, err := judge(bytes)
+			file, err := Verify(bytes, profile)
 			if err == nil {
 				accepted++
 				same(t, path, "accepted", wanted)

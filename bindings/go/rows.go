@@ -223,8 +223,8 @@ type FunctionStarts struct {
 
 // FunctionStarts iterates over the functions, by the first LC_FUNCTION_STARTS. Their addresses ascend.
 // They end before a number 0 of its data, a number that does not end in it, and an address of 2^64 or more. There are
-// none if the image has no base. In a file that VerifyLinked accepts each is the address of a byte of the file. In any
-// other one can be in no segment.
+// none if the image has no base. In a file that the linked profile accepts each is the address of a byte of the file.
+// In any other one can be in no segment.
 func (image *Image) FunctionStarts() *FunctionStarts {
 	return &FunctionStarts{rows: uncounted[functionStartRow]{image: image, table: functionStartTable}}
 }
@@ -242,8 +242,8 @@ func (starts *FunctionStarts) Next() bool {
 func (starts *FunctionStarts) Address() uint64 { return starts.address }
 
 // DataInCode returns the data in the code, by the whole entries of the first LC_DATA_IN_CODE, which can be in any order,
-// and overlap. In a file that VerifyLinked accepts the bytes of each are in one executable segment. In any other they can
-// be of no code.
+// and overlap. In a file that the linked profile accepts the bytes of each are in one executable segment. In any other
+// they can be of no code.
 func (image *Image) DataInCode() []DataInCode {
 	var found []DataInCode
 	rows := uncounted[dataInCodeRow]{image: image, table: dataInCodeTable}

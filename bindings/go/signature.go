@@ -14,7 +14,7 @@ type Blob struct {
 
 // Blobs returns the blobs of the code signature, by the first LC_CODE_SIGNATURE, in the order of its index. Each lies
 // past the one before it. They end before the first of which this does not hold. There are none if the data is no
-// superblob. In a file that VerifyLinked accepts these are all.
+// superblob. In a file that the linked profile accepts these are all.
 //
 // The entitlements are the blobs of the slots 5 (a property list) and 7 (DER), past their first 8 bytes:
 //
@@ -33,9 +33,9 @@ func (image *Image) Blobs() []Blob {
 }
 
 // A CodeDirectory is a CS_CodeDirectory of <kern/cs_blobs.h>: what was signed, and the hashes of its pages. In a file
-// that VerifyLinked accepts, the names and the hashes lie in the blob, the type of the hashes is known, and Limit is
-// where the signature begins in the image: there is a hash for each page before that. That the pages have these hashes
-// is what VerifySealed judges.
+// that the linked profile accepts, the names and the hashes lie in the blob, the type of the hashes is known, and Limit
+// is where the signature begins in the image: there is a hash for each page before that. The sealed profile judges
+// whether the pages have these hashes.
 type CodeDirectory struct {
 	// Bytes are the whole blob, with its magic and its length.
 	Bytes []byte
@@ -63,7 +63,7 @@ type CodeDirectory struct {
 
 // CodeDirectory returns what the blob says, if it is a code directory. Its slot does not matter. It is not ok if the
 // blob has another magic, a version below 0x20000, fewer bytes than the fields of its version, or a scatter vector. In
-// a file that VerifyLinked accepts, each blob in a slot of code directories (0, 0x1000 to 0x1004) is one.
+// a file that the linked profile accepts, each blob in a slot of code directories (0, 0x1000 to 0x1004) is one.
 func (blob *Blob) CodeDirectory() (directory CodeDirectory, ok bool) {
 	row, ok := readDirectory(blob.Bytes)
 	if !ok {
@@ -87,13 +87,13 @@ func (blob *Blob) CodeDirectory() (directory CodeDirectory, ok bool) {
 }
 
 // CDHash returns the hash of the whole blob, by the directory's own type of hashes. It is not ok if the type is not
-// known, which it is in a file that VerifyLinked accepts. It takes time in proportion to the blob.
+// known, which it is in a file that the linked profile accepts. It takes time in proportion to the blob.
 func (directory *CodeDirectory) CDHash() (hash CDHash, ok bool) {
 	return readCDHash(directory.Bytes)
 }
 
 // A CDHash is the hash of a code directory, by which systems know what was signed. It names the bytes of the directory
-// alone: that the pages have the hashes in it is what VerifySealed judges. It can be compared, and be a key of a map.
+// alone: the sealed profile judges whether the pages have the hashes in it. It can be compared, and be a key of a map.
 type CDHash struct {
 	// The bytes past the size are 0.
 	digest [48]byte

@@ -121,30 +121,6 @@ func TestCDHash(t *testing.T) {
 	}
 }
 
-// The second image of the library is signed: of its pages of 4096 bytes the last begins at 0x4000, and ends where the
-// signature begins, at 0x4060. The first image, at 0x30, is not signed.
-func TestSealed(t *testing.T) {
-	library := readReal(t, "library")
-	signed := verified(t, library).Images()[1].Bytes
-	if _, err := VerifySealed(signed); err != nil {
-		t.Errorf("the signed image: %v", err)
-	}
-	// A constant in the first page, and a letter of a name in the last.
-	for place, page := range map[int]uint64{0x2a8: 0, 0x404a: 0x4000} {
-		changed := append([]byte(nil), signed...)
-		changed[place] ^= 2
-		if _, err := VerifyLinked(changed); err != nil {
-			t.Errorf("the changed image, by the linked profile: %v", err)
-		}
-		_, err := VerifySealed(changed)
-		same(t, "a changed page", err, error(&Refused{"signature-hash", page}))
-	}
-	for name, place := range map[string]uint64{"program": 0, "library": 0x30} {
-		_, err := VerifySealed(readReal(t, name))
-		same(t, "an image that is not signed", err, error(&Refused{"signature-missing", place}))
-	}
-}
-
 func TestBlobsOutOfPlace(t *testing.T) {
 	for _, change := range []struct {
 		at                 int

@@ -3,14 +3,13 @@
 # per line. A program that is not as recorded is not run. The record guards against mistakes, not against someone who
 # can write to out/.
 
-# take_program NAME: sets the paths of the program of a command, or of the library in both its forms, and of its record.
+# take_program NAME: sets the paths of the program of a command, or of the library in both its forms, and of its record;
+# and the words by which the program judges standard input.
 take_program() {
-    archive='' linking=''
+    archive='' linking='' judging=''
     case $1 in
-        macho-check) crate=$top/crates/macho_check ;;
-        macho-strict) crate=$top/crates/macho_strict_check ;;
-        macho-linked) crate=$top/crates/macho_linked_check ;;
-        macho-sealed) crate=$top/crates/macho_sealed_check ;;
+        macho-check) crate=$top/crates/macho_check judging="check -" ;;
+        macho-verify) crate=$top/crates/macho_verify judging="layout -" ;;
         libkesvuot) crate=$top/crates/macho_c ;;
     esac
     program=$crate/out/${crate##*/}

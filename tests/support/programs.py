@@ -8,12 +8,12 @@ from pathlib import Path
 
 from .calling import TOP, Answer, call, shell
 
+# Each has the rules of those before it.
+PROFILES = ("layout", "strict", "linked", "sealed")
 MACHO_CHECK = TOP / "crates/macho_check/out/macho_check"
+MACHO_VERIFY = TOP / "crates/macho_verify/out/macho_verify"
 # What make builds and installs.
-PROGRAMS = {"macho-check": MACHO_CHECK,
-            "macho-strict": TOP / "crates/macho_strict_check/out/macho_strict_check",
-            "macho-linked": TOP / "crates/macho_linked_check/out/macho_linked_check",
-            "macho-sealed": TOP / "crates/macho_sealed_check/out/macho_sealed_check"}
+PROGRAMS = {"macho-check": MACHO_CHECK, "macho-verify": MACHO_VERIFY}
 HEADER = TOP / "bindings/c/kesvuot.h"
 MACHO_TRIALS = TOP / "crates/macho_trials/out/macho_trials"
 REAL = TOP / "tests/real"
@@ -22,15 +22,19 @@ EXECUTABLE, LAYOUT = TOP / "crates/macho_check/stdin", TOP / "crates/macho_check
 NO_BYTES = b"refused: magic at 0x0\n"
 
 
+def with_record(line: str, name: str, **given) -> Answer:
+    """Runs a line of sh after take_program of crates/macho_check/record.sh, for a program or `libkesvuot`."""
+    return shell(f'top=$1 && . "$top/crates/macho_check/record.sh" && take_program "$2" && {line}', TOP, name, **given)
+
+
 def is_built(command: str) -> bool:
     """Builds the program of a command, such as ./macho-check, where it is not current."""
-    return call(TOP / command, stderr=2) == Answer(1, NO_BYTES)
+    return with_record('exec "$top/$2" $judging', command, stderr=2) == Answer(1, NO_BYTES)
 
 
 def why_outdated(name: str) -> str:
-    """Why a program or `libkesvuot` is not current, or nothing where it is (crates/macho_check/record.sh)."""
-    return shell('top=$1 && cd "$top" && . crates/macho_check/record.sh && take_program "$2" && '
-                 'is_current || echo "${reason:-it cannot be read}"', TOP, name).text
+    """Why a program or `libkesvuot` is not current, or nothing where it is."""
+    return with_record('is_current || echo "${reason:-it cannot be read}"', name).text
 
 
 def library_folder() -> Path:

@@ -49,6 +49,18 @@ static void try_version_and_rules(unsigned long rules) {
     try_no_rule(UINT32_MAX);
 }
 
+// The last rule of a profile, in the order of judgment, and the first rule of the next one.
+static void try_profiles_of_rules(void) {
+    static const uint32_t rules[][2] = {
+        {0, KESVUOT_MAGIC}, {KESVUOT_ENTRY, KESVUOT_FAT_STRAY_BYTE}, {KESVUOT_UNCLAIMED_BYTE, KESVUOT_TABLE_REPEATED},
+        {KESVUOT_COMMAND_CONTENT, KESVUOT_SIGNATURE_MISSING}, {KESVUOT_SIGNATURE_HASH, 0}};
+    for (uint32_t profile = 0; profile <= KESVUOT_SEALED; profile++) {
+        CHECK(kesvuot_rule_profile(rules[profile][0]) == profile);
+        CHECK(kesvuot_rule_profile(rules[profile][1]) == (profile + 1) % (KESVUOT_SEALED + 1));
+    }
+    CHECK(kesvuot_rule_profile(end_of_rules()) == 0 && kesvuot_rule_profile(UINT32_MAX) == 0);
+}
+
 // A name by both calls, or none.
 static void try_name(uint32_t status, struct kesvuot_text text, const char *name, const char *wanted) {
     CHECK(status == (wanted ? KESVUOT_OK : KESVUOT_NONE));
@@ -65,6 +77,12 @@ static void try_platform(uint32_t platform, const char *wanted) {
     struct kesvuot_text text;
     const uint32_t status = kesvuot_find_platform(platform, &text);
     try_name(status, text, kesvuot_platform_name(platform), wanted);
+}
+
+static void try_profile(uint32_t profile, const char *wanted) {
+    struct kesvuot_text text;
+    const uint32_t status = kesvuot_find_profile(profile, &text);
+    try_name(status, text, kesvuot_profile_name(profile), wanted);
 }
 
 // The architecture with a name, or none: then both numbers are 0.
@@ -126,26 +144,37 @@ static void try_names_of_numbers(void) {
     try_platform(12, "PLATFORM_VISIONOSSIMULATOR");
     try_platform(0, NULL);
     try_platform(UINT32_MAX, NULL);
+    const char *const profiles[] = {NULL, "layout", "strict", "linked", "sealed", NULL};
+    for (uint32_t profile = 0; profile < sizeof profiles / sizeof *profiles; profile++) {
+        try_profile(profile, profiles[profile]);
+    }
+    try_profile(UINT32_MAX, NULL);
 }
 
-typedef uint32_t judge(const void *file, size_t size, struct kesvuot_verdict *verdict);
-
-static void try_call(judge *verify, const void *bytes, size_t size, uint32_t status, struct kesvuot_verdict wanted) {
-    struct kesvuot_verdict verdict;
-    memset(&verdict, UNWRITTEN, sizeof verdict);
-    CHECK(verify(bytes, size, &verdict) == status);
-    CHECK(memcmp(&verdict, &wanted, sizeof verdict) == 0);
-}
-
-static void try_linked(const void *bytes, size_t size, uint32_t status, struct kesvuot_verdict wanted) {
-    try_call(kesvuot_verify, bytes, size, status, wanted);
-    try_call(kesvuot_verify_strictly, bytes, size, status, wanted);
-    try_call(kesvuot_verify_linked, bytes, size, status, wanted);
+// The same verdict by all profiles from one to another.
+static void try_verdict(uint32_t first, uint32_t last, const void *bytes, size_t size, uint32_t status,
+                        struct kesvuot_verdict wanted) {
+    for (uint32_t profile = first; profile <= last; profile++) {
+        struct kesvuot_verdict verdict;
+        memset(&verdict, UNWRITTEN, sizeof verdict);
+        CHECK(kesvuot_verify(bytes, size, profile, &verdict) == status);
+        CHECK(memcmp(&verdict, &wanted, sizeof verdict) == 0);
+    }
 }
 
 static void try_all(const void *bytes, size_t size, uint32_t status, struct kesvuot_verdict wanted) {
-    try_linked(bytes, size, status, wanted);
-    try_call(kesvuot_verify_sealed, bytes, size, status, wanted);
+    try_verdict(KESVUOT_LAYOUT, KESVUOT_SEALED, bytes, size, status, wanted);
+}
+
+// Numbers that no profile has. Nothing is written, whatever the file is.
+static void try_unknown_profiles(const void *bytes, size_t size) {
+    static const uint32_t numbers[] = {0, KESVUOT_SEALED + 1, UINT32_MAX};
+    for (size_t index = 0; index < sizeof numbers / sizeof *numbers; index++) {
+        struct kesvuot_verdict verdict;
+        memset(&verdict, UNWRITTEN, sizeof verdict);
+        CHECK(kesvuot_verify(bytes, size, numbers[index], &verdict) == KESVUOT_UNKNOWN_PROFILE);
+        CHECK(is_filled(&verdict, sizeof verdict, UNWRITTEN));
+    }
 }
 
 // The second image of the library is signed: its last page begins at 0x4000, and ends at 0x4060. It has a name at 0x404a,
@@ -159,14 +188,14 @@ static void try_sealed_verdicts(void) {
     const struct kesvuot_verdict of_one = {0, 1, 0, 0}, unsigned_at = {0x30, 0, KESVUOT_SIGNATURE_MISSING, 0};
     uint8_t bytes[SIZE];
     CHECK(library.size == START + SIZE);
-    try_call(kesvuot_verify_sealed, library.bytes, library.size, KESVUOT_REFUSED, unsigned_at);
+    try_verdict(KESVUOT_SEALED, KESVUOT_SEALED, library.bytes, library.size, KESVUOT_REFUSED, unsigned_at);
     for (size_t k = 0; k < sizeof changes / sizeof *changes; k++) {
         const struct kesvuot_verdict another = {changes[k].page, 0, KESVUOT_SIGNATURE_HASH, 0};
         memcpy(bytes, library.bytes + START, SIZE);
         try_all(bytes, SIZE, KESVUOT_OK, of_one);
         bytes[changes[k].at] ^= 2;
-        try_linked(bytes, SIZE, KESVUOT_OK, of_one);
-        try_call(kesvuot_verify_sealed, bytes, SIZE, KESVUOT_REFUSED, another);
+        try_verdict(KESVUOT_LAYOUT, KESVUOT_LINKED, bytes, SIZE, KESVUOT_OK, of_one);
+        try_verdict(KESVUOT_SEALED, KESVUOT_SEALED, bytes, SIZE, KESVUOT_REFUSED, another);
     }
 }
 
@@ -175,15 +204,16 @@ static void try_verdicts(void) {
     const struct kesvuot_verdict cut = {8 + 20, 0, KESVUOT_FAT_SLICE_OUTSIDE, 0};
     try_all(NULL, 0, KESVUOT_REFUSED, no_magic);
     try_all("", 0, KESVUOT_REFUSED, no_magic);
-    try_linked(library.bytes, library.size, KESVUOT_OK, of_two);
+    try_verdict(KESVUOT_LAYOUT, KESVUOT_LINKED, library.bytes, library.size, KESVUOT_OK, of_two);
     try_sealed_verdicts();
     try_all(library.bytes, library.size - 1, KESVUOT_REFUSED, cut);
     // Its 64-bit image has no segment, so none has its header. The place is that of sizeofcmds.
     const struct kesvuot_verdict no_segment = {96 + 20, 0, KESVUOT_HEADER_SEGMENT, 0};
-    try_call(kesvuot_verify, mixed.bytes, mixed.size, KESVUOT_OK, of_two);
-    try_call(kesvuot_verify_strictly, mixed.bytes, mixed.size, KESVUOT_REFUSED, no_segment);
-    try_call(kesvuot_verify_linked, mixed.bytes, mixed.size, KESVUOT_REFUSED, no_segment);
-    try_call(kesvuot_verify_sealed, mixed.bytes, mixed.size, KESVUOT_REFUSED, no_segment);
+    try_verdict(KESVUOT_LAYOUT, KESVUOT_LAYOUT, mixed.bytes, mixed.size, KESVUOT_OK, of_two);
+    try_verdict(KESVUOT_STRICT, KESVUOT_SEALED, mixed.bytes, mixed.size, KESVUOT_REFUSED, no_segment);
+    try_unknown_profiles(mixed.bytes, mixed.size);
+    try_unknown_profiles(library.bytes, library.size - 1);
+    try_unknown_profiles(NULL, 0);
 }
 
 // Asks for the layout in this much room. `text` has room for `length` bytes and one more.
@@ -236,7 +266,8 @@ static void try_explanations(void) {
     const size_t cut = library.size - 1;
     struct kesvuot_verdict verdict;
     struct kesvuot_explanation found;
-    CHECK(kesvuot_verify(library.bytes, cut, &verdict) == KESVUOT_REFUSED && verdict.rule == KESVUOT_FAT_SLICE_OUTSIDE);
+    CHECK(kesvuot_verify(library.bytes, cut, KESVUOT_LAYOUT, &verdict) == KESVUOT_REFUSED);
+    CHECK(verdict.rule == KESVUOT_FAT_SLICE_OUTSIDE);
     CHECK(kesvuot_explain(library.bytes, cut, &verdict, &found) == KESVUOT_OK);
     // The second entry of the table, a fat_arch of 20 bytes, and its slice, which ends with the file.
     CHECK(found.at.kind == KESVUOT_PART_FAT_ARCH && found.at.start == 28 && found.at.size == 20);
@@ -510,7 +541,7 @@ static const struct kesvuot_span TABLE_SPANS[TABLE_COUNT + 1] = {
 static struct kesvuot_image image_of_tables(const void *bytes, size_t size) {
     struct kesvuot_verdict verdict;
     struct kesvuot_image image;
-    CHECK(kesvuot_verify(bytes, size, &verdict) == KESVUOT_OK);
+    CHECK(kesvuot_verify(bytes, size, KESVUOT_LAYOUT, &verdict) == KESVUOT_OK);
     CHECK(kesvuot_read_image(bytes, size, 0, &image) == KESVUOT_OK);
     return image;
 }
@@ -1271,7 +1302,7 @@ static void try_symbols(void) {
     struct kesvuot_verdict verdict;
     struct kesvuot_image image;
     const struct file file = file_of(&made, MADE_SIZE, AT_END);
-    CHECK(kesvuot_verify(file.bytes, file.size, &verdict) == KESVUOT_OK);
+    CHECK(kesvuot_verify(file.bytes, file.size, KESVUOT_LAYOUT, &verdict) == KESVUOT_OK);
     CHECK(kesvuot_read_image(file.bytes, file.size, 0, &image) == KESVUOT_OK);
     try_index(file, &image);
     try_symbols_by_address(file, &image);
@@ -1286,6 +1317,7 @@ int main(int count, char **words) {
     library = read_file(words[1], side_or_block(AT_END));
     mixed = read_file(words[2], side_or_block(AT_END));
     try_version_and_rules(strtoul(words[3], NULL, 10));
+    try_profiles_of_rules();
     try_names_of_numbers();
     try_architectures();
     try_verdicts();

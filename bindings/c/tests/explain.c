@@ -27,7 +27,7 @@ static uint32_t explain_at(const char *path, enum side side, struct kesvuot_verd
     const struct file file = read_file(path, side_or_block(side));
     uint32_t status = KESVUOT_REFUSED;
     memset(found, UNWRITTEN, sizeof *found);
-    if (kesvuot_verify_sealed(file.bytes, file.size, verdict) == KESVUOT_REFUSED) {
+    if (kesvuot_verify(file.bytes, file.size, KESVUOT_SEALED, verdict) == KESVUOT_REFUSED) {
         status = kesvuot_explain(file.bytes, file.size, verdict, found);
     }
     release(file);

@@ -185,6 +185,21 @@ static void take_bounded(const struct kesvuot_image *image, size_t size) {
     CHECK(begins == KESVUOT_OK || (begins == KESVUOT_NONE && entry == 0));
 }
 
+// Judges by any profile. By a number that no profile has, nothing is written.
+static void take_verdict(size_t size) {
+    struct kesvuot_verdict verdict;
+    memset(&verdict, UNWRITTEN, sizeof verdict);
+    const uint32_t profile = (uint32_t)lie(draw_below(KESVUOT_SEALED + 2));
+    const uint32_t status = kesvuot_verify(file.bytes, size, profile, &verdict);
+    calls++;
+    if (kesvuot_profile_name(profile)) {
+        CHECK(status == KESVUOT_OK || status == KESVUOT_REFUSED);
+        CHECK(kesvuot_rule_profile(verdict.rule) <= profile && verdict.place <= size && verdict.reserved == 0);
+    } else {
+        CHECK(status == KESVUOT_UNKNOWN_PROFILE && is_filled(&verdict, sizeof verdict, UNWRITTEN));
+    }
+}
+
 // Explains any rule at any place, or the first broken one.
 static void take_explanation(size_t size) {
     struct kesvuot_verdict verdict = {0};
@@ -194,7 +209,7 @@ static void take_explanation(size_t size) {
     none.at.index = none.first.index = none.second.index = KESVUOT_NO_INDEX;
     none.slice = none.command = none.section = none.symbol = KESVUOT_NO_INDEX;
     if (draw_below(2)) {
-        kesvuot_verify_sealed(file.bytes, size, &verdict);
+        kesvuot_verify(file.bytes, size, KESVUOT_SEALED, &verdict);
     }
     if (!verdict.rule || draw_below(4) == 0) {
         verdict.rule = (uint32_t)(draw_below(8) ? draw_below(rules_end + 1) : draw());
@@ -342,6 +357,7 @@ static void try_file(long rounds) {
         const uint64_t slice = draw_below(4) ? draw_below(3) : lie(2);
         opened += kesvuot_read_image(file.bytes, size, slice, &image) == KESVUOT_OK;
         take(image.slice, size);
+        take_verdict(size);
         take_all(&image, size);
         lie_all(&image);
         take_all(&image, size);

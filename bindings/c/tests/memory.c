@@ -1,7 +1,7 @@
-// memory FILE..: refuses each allocation of the four verdicts and of the layout in turn. Then the status is NO_MEMORY,
-// or that with ample memory if it was room for elements that all verdicts but the first keep only where there is room: at
-// most one allocation for each slice. All allocated memory is freed. No other call allocates memory. Linked with
-// --wrap for malloc, realloc and free.
+// memory FILE..: refuses each allocation of the verdict by each profile and of the layout in turn. Then the status is
+// NO_MEMORY. Or the verdict stays, if the allocation was room for elements, which all profiles above the layout keep
+// only where there is room: at most one allocation for each slice. All allocated memory is freed. No other call
+// allocates memory. Linked with --wrap for malloc, realloc and free.
 #include "support.h"
 #include <stdio.h>
 #include <string.h>
@@ -33,17 +33,15 @@ void __wrap_free(void *block) {
     __real_free(block);
 }
 
-typedef uint32_t judge(const void *file, size_t size, struct kesvuot_verdict *verdict);
-
 static unsigned long refusals;
 
 // Judges the file, and refuses the allocation with this number, if it is not 0.
-static uint32_t judge_refusing(judge *verify, struct file file, long number, struct kesvuot_verdict *verdict) {
+static uint32_t judge_refusing(uint32_t profile, struct file file, long number, struct kesvuot_verdict *verdict) {
     const long held_before = held;
     memset(verdict, UNWRITTEN, sizeof *verdict);
     asked = 0;
     refused = number;
-    const uint32_t status = verify(file.bytes, file.size, verdict);
+    const uint32_t status = kesvuot_verify(file.bytes, file.size, profile, verdict);
     refused = 0;
     CHECK(held == held_before);
     return status;
@@ -59,24 +57,24 @@ static uint64_t images_of(struct file file) {
     return images;
 }
 
-// Refuses each allocation of the call. At most this many may be refused without a change of the verdict.
-static void try_verdict(judge *verify, struct file file, uint64_t spared) {
+// Refuses each allocation of the verdict.
+static void try_verdict(uint32_t profile, struct file file) {
     struct kesvuot_verdict verdict, wanted;
     static const struct kesvuot_verdict none;
-    const uint32_t status = judge_refusing(verify, file, 0, &wanted);
+    const uint32_t status = judge_refusing(profile, file, 0, &wanted);
     const long needed = asked;
     uint64_t unmoved = 0;
     CHECK(status == KESVUOT_OK || status == KESVUOT_REFUSED);
     for (long number = 1; number <= needed; number++) {
-        const uint32_t refused_status = judge_refusing(verify, file, number, &verdict);
+        const uint32_t refused_status = judge_refusing(profile, file, number, &verdict);
         const bool is_same = refused_status == status;
         CHECK(is_same || refused_status == KESVUOT_NO_MEMORY);
         CHECK(memcmp(&verdict, is_same ? &wanted : &none, sizeof verdict) == 0);
         unmoved += is_same;
         refusals += !is_same;
     }
-    CHECK(unmoved <= spared);
-    CHECK(judge_refusing(verify, file, needed + 1, &verdict) == status);
+    CHECK(unmoved <= (profile == KESVUOT_LAYOUT ? 0 : images_of(file)));
+    CHECK(judge_refusing(profile, file, needed + 1, &verdict) == status);
     CHECK(memcmp(&verdict, &wanted, sizeof verdict) == 0);
 }
 
@@ -140,10 +138,9 @@ static void try_views(struct file file) {
 int main(int count, char **words) {
     for (int index = 1; index < count; index++) {
         const struct file file = read_file(words[index], AT_END);
-        try_verdict(kesvuot_verify, file, 0);
-        try_verdict(kesvuot_verify_strictly, file, images_of(file));
-        try_verdict(kesvuot_verify_linked, file, images_of(file));
-        try_verdict(kesvuot_verify_sealed, file, images_of(file));
+        for (uint32_t profile = KESVUOT_LAYOUT; profile <= KESVUOT_SEALED; profile++) {
+            try_verdict(profile, file);
+        }
         try_layout(file);
         try_views(file);
         try_explanations(file);

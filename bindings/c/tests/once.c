@@ -1,22 +1,19 @@
 // once CALL FILE: makes one call of the library on a file. tests/cost counts its instructions. What came of it is
 // printed:
 //
-//     none        nothing: no call is made
-//     verify, verify_strictly, verify_linked, verify_sealed
-//                 the verdict, as macho-check prints it
-//     layout      the first line
-//     NAME        kesvuot_read_image of slice 0, and what the view of this name returns of it
+//     none              nothing: no call is made
+//     verify-PROFILE    the verdict by this profile, as the first line of macho-verify
+//     layout            the first line
+//     NAME              kesvuot_read_image of slice 0, and what the view of this name returns of it
 #include "support.h"
 #include <inttypes.h>
 #include <stdio.h>
 #include <stdlib.h>
 #include <string.h>
 
-typedef uint32_t judge(const void *file, size_t size, struct kesvuot_verdict *verdict);
-
-static void print_verdict(judge *judge, const struct file *file) {
+static void print_verdict(uint32_t profile, const struct file *file) {
     struct kesvuot_verdict verdict;
-    switch (judge(file->bytes, file->size, &verdict)) {
+    switch (kesvuot_verify(file->bytes, file->size, profile, &verdict)) {
     case KESVUOT_OK:
         printf("accepted, slices %" PRIu64 "\n", verdict.slices);
         break;
@@ -55,14 +52,10 @@ static void print_of_image(const char *name, const struct file *file) {
 }
 
 static void print(const char *call, const struct file *file) {
-    if (!strcmp(call, "verify")) {
-        print_verdict(kesvuot_verify, file);
-    } else if (!strcmp(call, "verify_strictly")) {
-        print_verdict(kesvuot_verify_strictly, file);
-    } else if (!strcmp(call, "verify_linked")) {
-        print_verdict(kesvuot_verify_linked, file);
-    } else if (!strcmp(call, "verify_sealed")) {
-        print_verdict(kesvuot_verify_sealed, file);
+    static const char verify[] = "verify-";
+    const size_t length = sizeof verify - 1;
+    if (!strncmp(call, verify, length)) {
+        print_verdict(profile_named(call + length), file);
     } else if (!strcmp(call, "layout")) {
         print_layout(file);
     } else if (strcmp(call, "none") != 0) {

@@ -16,26 +16,11 @@ static uint8_t *stack;
 static struct file file;
 static struct kesvuot_image image;
 static char text[1 << 16];
-static uint32_t rules_end;
+static uint32_t rules_end, profile;
 
 static void verify(void) {
     struct kesvuot_verdict verdict;
-    kesvuot_verify(file.bytes, file.size, &verdict);
-}
-
-static void verify_strictly(void) {
-    struct kesvuot_verdict verdict;
-    kesvuot_verify_strictly(file.bytes, file.size, &verdict);
-}
-
-static void verify_linked(void) {
-    struct kesvuot_verdict verdict;
-    kesvuot_verify_linked(file.bytes, file.size, &verdict);
-}
-
-static void verify_sealed(void) {
-    struct kesvuot_verdict verdict;
-    kesvuot_verify_sealed(file.bytes, file.size, &verdict);
+    kesvuot_verify(file.bytes, file.size, profile, &verdict);
 }
 
 static void layout(void) {
@@ -61,13 +46,14 @@ static void first_image(void) {
 static const struct {
     const char *name;
     void (*call)(void);
-} calls[] = {{"verify", verify},
-             {"verify_strictly", verify_strictly},
-             {"verify_linked", verify_linked},
-             {"verify_sealed", verify_sealed},
-             {"layout", layout},
-             {"explain", explain},
-             {"read_image", first_image}};
+    uint32_t profile; // 0: the call takes none
+} calls[] = {{"verify, layout", verify, KESVUOT_LAYOUT},
+             {"verify, strict", verify, KESVUOT_STRICT},
+             {"verify, linked", verify, KESVUOT_LINKED},
+             {"verify, sealed", verify, KESVUOT_SEALED},
+             {"layout", layout, 0},
+             {"explain", explain, 0},
+             {"read_image", first_image, 0}};
 enum { CALLS = sizeof calls / sizeof *calls };
 
 // How many bytes each takes at most: the calls, and then the views of the image, which `first_image` has set.
@@ -76,6 +62,7 @@ static size_t *taken, all;
 static void *run(void *given) {
     const size_t index = *(const size_t *)given;
     if (index < CALLS) {
+        profile = calls[index].profile;
         calls[index].call();
     } else {
         views[index - CALLS].call(&file, &image);

@@ -131,6 +131,16 @@ uint32_t end_of_rules(void) {
     return rule;
 }
 
+uint32_t profile_named(const char *name) {
+    for (uint32_t profile = KESVUOT_LAYOUT; profile <= KESVUOT_SEALED; profile++) {
+        if (strcmp(kesvuot_profile_name(profile), name) == 0) {
+            return profile;
+        }
+    }
+    stop(name, "no such profile");
+    return 0;
+}
+
 enum { BATCH = 16, LC_FUNCTION_STARTS = 0x26 };
 
 // How many of the first rows of a table there are.

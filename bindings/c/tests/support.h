@@ -51,6 +51,9 @@ void print_name(const struct file *file, struct kesvuot_span name);
 // The number after that of the last rule. The first rule has the number 1, and no number between is left out.
 uint32_t end_of_rules(void);
 
+// The number of the profile with this name. Ends the program if no profile has the name.
+uint32_t profile_named(const char *name);
+
 // A call on an image, by its name without `kesvuot_`. It returns how many rows or answers the library gives of those that
 // support.c asks for, or whether there is one.
 struct view {

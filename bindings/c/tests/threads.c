@@ -9,7 +9,7 @@ enum { THREADS = 4, ROWS = 64 };
 
 // What the calls give.
 struct answer {
-    struct kesvuot_verdict verdict, strict_verdict, linked_verdict, sealed_verdict;
+    struct kesvuot_verdict verdicts[KESVUOT_SEALED + 1]; // by the numbers of the profiles
     struct kesvuot_image image;
     struct kesvuot_segment segments[ROWS];
     struct kesvuot_symbol symbols[ROWS];
@@ -22,10 +22,9 @@ static long rounds;
 
 static void ask(struct answer *answer) {
     memset(answer, 0, sizeof *answer);
-    kesvuot_verify(file.bytes, file.size, &answer->verdict);
-    kesvuot_verify_strictly(file.bytes, file.size, &answer->strict_verdict);
-    kesvuot_verify_linked(file.bytes, file.size, &answer->linked_verdict);
-    kesvuot_verify_sealed(file.bytes, file.size, &answer->sealed_verdict);
+    for (uint32_t profile = KESVUOT_LAYOUT; profile <= KESVUOT_SEALED; profile++) {
+        kesvuot_verify(file.bytes, file.size, profile, &answer->verdicts[profile]);
+    }
     kesvuot_read_image(file.bytes, file.size, 0, &answer->image);
     struct kesvuot_cursor of_segments = {0}, of_symbols = {0};
     kesvuot_read_segments(file.bytes, file.size, &answer->image, &of_segments, answer->segments, ROWS);
@@ -53,7 +52,7 @@ int main(int count, char **words) {
     rounds = strtol(words[1], NULL, 10);
     file = read_file(words[2], AT_END);
     ask(&wanted);
-    CHECK(wanted.verdict.slices == 1 && wanted.image.segment_count > 0 && wanted.bytes.size > 0);
+    CHECK(wanted.verdicts[KESVUOT_LAYOUT].slices == 1 && wanted.image.segment_count > 0 && wanted.bytes.size > 0);
     for (size_t index = 0; index < THREADS; index++) {
         CHECK(pthread_create(&threads[index], NULL, run, words) == 0);
     }

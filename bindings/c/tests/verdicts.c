@@ -1,4 +1,4 @@
-// verdicts FOLDER COUNT [strictly|linked|sealed]: judges the files 1 to COUNT of a folder, and prints a line for each, as
+// verdicts FOLDER COUNT PROFILE: judges the files 1 to COUNT of a folder by a profile, and prints a line for each, as
 // vectors have it: `accepted`, or `refused: RULE at 0xPLACE`. Each file lies at the end of its pages, and then at the
 // start.
 #include "support.h"
@@ -6,8 +6,6 @@
 #include <stdio.h>
 #include <stdlib.h>
 #include <string.h>
-
-typedef uint32_t judge(const void *file, size_t size, struct kesvuot_verdict *verdict);
 
 // What verdicts have before the call, so that a field that is not written is seen.
 static struct kesvuot_verdict unwritten(void) {
@@ -28,36 +26,25 @@ static void print_line(uint32_t status, const struct kesvuot_verdict *verdict) {
     }
 }
 
-static uint32_t judge_at(judge *verify, const char *path, enum side side, struct kesvuot_verdict *verdict) {
+static uint32_t judge_at(uint32_t profile, const char *path, enum side side, struct kesvuot_verdict *verdict) {
     const struct file file = read_file(path, side_or_block(side));
     *verdict = unwritten();
-    const uint32_t status = verify(file.bytes, file.size, verdict);
+    const uint32_t status = kesvuot_verify(file.bytes, file.size, profile, verdict);
     release(file);
     return status;
 }
 
-// The call that judges by the rules of this word.
-static judge *judge_of(const char *word) {
-    if (strcmp(word, "sealed") == 0) {
-        return kesvuot_verify_sealed;
-    }
-    if (strcmp(word, "linked") == 0) {
-        return kesvuot_verify_linked;
-    }
-    return strcmp(word, "strictly") == 0 ? kesvuot_verify_strictly : kesvuot_verify;
-}
-
 int main(int count, char **words) {
-    if (count < 3) {
-        stop("usage", "verdicts FOLDER COUNT [strictly|linked|sealed]");
+    if (count != 4) {
+        stop("usage", "verdicts FOLDER COUNT PROFILE");
     }
-    judge *verify = judge_of(count > 3 ? words[3] : "");
+    const uint32_t profile = profile_named(words[3]);
     for (long number = 1; number <= strtol(words[2], NULL, 10); number++) {
         char path[4096];
         struct kesvuot_verdict at_end, at_start;
         snprintf(path, sizeof path, "%s/%ld", words[1], number);
-        const uint32_t status = judge_at(verify, path, AT_END, &at_end);
-        if (judge_at(verify, path, AT_START, &at_start) != status || memcmp(&at_end, &at_start, sizeof at_end) != 0) {
+        const uint32_t status = judge_at(profile, path, AT_END, &at_end);
+        if (judge_at(profile, path, AT_START, &at_start) != status || memcmp(&at_end, &at_start, sizeof at_end) != 0) {
             puts("another verdict at the start of a page");
         }
         print_line(status, &at_end);

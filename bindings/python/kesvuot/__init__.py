@@ -11,8 +11,9 @@
             for segment in image.segments:
                 print(segment.name.tobytes(), len(segment.bytes))
 
-`kesvuot.verify_file(path)` reads the file, too. `explain(data, refused)` says which structures, parts and numbers a
-refusal is about. `kesvuot.constants` has the numbers of <mach-o/loader.h> and its kin, such as LC_SEGMENT_64.
+`kesvuot.verify(data, "strict")` judges by more rules: the profiles are "layout" (the default), "strict", "linked" and
+"sealed". `kesvuot.verify_file(path)` reads the file, too. `explain(data, refused)` says which structures, parts and
+numbers a refusal is about. `kesvuot.constants` has the numbers of <mach-o/loader.h> and its kin, such as LC_SEGMENT_64.
 
 `data` is bytes, a bytearray, an mmap, or any other object whose bytes are in one piece. Names and contents are
 read-only memoryviews of it. Nothing is copied, and `data` lives for as long as a view of it does. A view compares with
@@ -43,13 +44,13 @@ from . import constants
 from ._explanation import Explanation, Part, explain
 from ._files import (
     BoundedTable, Dysymtab, File, Image, Refused, Slice, Source, SourceKind, Symtab, arch_name, arch_named,
-    command_name, library_version, platform_name, verify, verify_file, verify_linked, verify_sealed)
+    command_name, library_version, platform_name, verify, verify_file)
 from ._opcodes import Bind, OpcodeError, Rebase
 from ._rows import (
     Blob, Build, CodeDirectory, Command, DataInCode, Export, Library, Relocation, Section, Segment, Symbol, Table)
 
-__all__ = ["verify", "verify_file", "verify_linked", "verify_sealed", "explain", "library_version", "arch_name",
-           "arch_named", "command_name", "platform_name", "constants", "Refused", "Explanation", "Part", "File",
-           "Slice", "Image", "Source", "SourceKind", "Table", "Segment", "Section", "Library", "Build", "Command",
-           "Symbol", "Relocation", "DataInCode", "Blob", "CodeDirectory", "Export", "BoundedTable", "Symtab",
-           "Dysymtab", "Rebase", "Bind", "OpcodeError"]
+__all__ = ["verify", "verify_file", "explain", "library_version", "arch_name", "arch_named", "command_name",
+           "platform_name", "constants", "Refused", "Explanation", "Part", "File", "Slice", "Image", "Source",
+           "SourceKind", "Table", "Segment", "Section", "Library", "Build", "Command", "Symbol", "Relocation",
+           "DataInCode", "Blob", "CodeDirectory", "Export", "BoundedTable", "Symtab", "Dysymtab", "Rebase", "Bind",
+           "OpcodeError"]

@@ -7,10 +7,10 @@ from fnmatch import fnmatchcase
 from functools import partial
 from typing import Any, Callable, Counter, Dict, Iterator, List, NamedTuple, Optional, Tuple
 
-from ._files import File, Refused
+from ._files import File, Refused, verify
 from ._kinds import is_told, other_kind
 from ._pool import map_in_processes
-from ._profiles import DEFAULT, verify
+from ._profiles import DEFAULT
 from ._reading import Contents, NotMachO, read_found, read_given
 
 ACCEPTED, REFUSED, NO_VERDICT, SKIPPED = "accepted", "refused", "no verdict", "skipped"

@@ -18,8 +18,8 @@ from ._files import ARCHITECTURES, File, Image
 from ._names import command_name
 from ._output import GREEN, RED, Output, coloured, say
 from ._parts import image_parts, slices_of
-from ._profiles import PROFILES, later, link
-from ._reports import check_object, reason_text, rule_text, shown
+from ._profiles import PROFILES, later
+from ._reports import check_object, link, reason_text, rule_text, shown
 from ._rules import RULES
 from ._show import columns
 from ._stories import Told, told_of

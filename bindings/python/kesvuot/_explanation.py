@@ -3,11 +3,10 @@
 from __future__ import annotations
 
 import ctypes
-from functools import lru_cache
-from typing import Dict, NamedTuple, Optional
+from typing import NamedTuple, Optional
 
 from . import _library
-from ._files import Refused, rule_name
+from ._files import Refused, rule_numbers
 from ._library import EXPLANATION, VERDICT, Bytes, Data, load
 
 # The kinds of parts from 1 on, as KESVUOT_PART_.. of kesvuot.h has them.
@@ -58,7 +57,7 @@ class Explanation(NamedTuple):
 def explain(data: Data, refused: Refused) -> Optional[Explanation]:
     """Explains a refusal of these bytes, by whichever profile. The file is not judged again. None if the refusal is not
     one of these bytes, as far as that is seen: no rule has the name, or nothing that the rule is about is at the place."""
-    number = _numbers().get(refused.rule)
+    number = rule_numbers().get(refused.rule)
     if number is None or not 0 <= refused.place < 1 << 64:
         return None
     file = Bytes(data)
@@ -77,12 +76,3 @@ def _part(start: int, size: int, described: int, kind: int, index: int) -> Optio
 
 def _index(number: int) -> Optional[int]:
     return None if number == _library.NO_INDEX else number
-
-
-@lru_cache(maxsize=None)
-def _numbers() -> Dict[str, int]:
-    """The number of each rule, by its name."""
-    numbers: Dict[str, int] = {}
-    while rule_name(len(numbers) + 1):
-        numbers[rule_name(len(numbers) + 1)] = len(numbers) + 1
-    return numbers

@@ -6,13 +6,14 @@ import ctypes
 import enum
 import operator
 import os
-from functools import cached_property
-from typing import Any, Iterator, NamedTuple, Optional, SupportsIndex, Tuple, Union
+from functools import cached_property, lru_cache
+from typing import Any, Dict, Iterator, NamedTuple, Optional, SupportsIndex, Tuple, Union
 from uuid import UUID
 
 from . import _exports, _library, _opcodes, _reading, _rows
 from ._library import CHANGED, EXPORT, IMAGE, SPAN, TEXT, VERDICT, Bytes, Data, address_of, load
 from ._opcodes import Bind, Rebase
+from ._profiles import DEFAULT, PROFILES
 from ._rows import (
     Blob, Build, Command, DataInCode, Export, Library, NamedReader, Reader, Relocation, Section, Segment, Symbol, Table,
     WalkedReader)
@@ -36,6 +37,11 @@ class Refused(Exception):
 
     def __str__(self) -> str:
         return f"{self.rule} at {self.place:#x}"
+
+    @property
+    def profile(self) -> Optional[str]:
+        """The profile that the rule belongs to, such as "strict". None if the library has no rule of this name."""
+        return _name(load().kesvuot_find_profile, load().kesvuot_rule_profile(rule_numbers().get(self.rule, 0)))
 
 
 class Symtab(NamedTuple):
@@ -215,7 +221,7 @@ class Image(Slice):
     def thread_entry(self) -> Optional[int]:
         """The address at which the first LC_THREAD or LC_UNIXTHREAD begins, such as that of a program that Go links.
         None if there is no such command, its registers are not known, or the file has no byte that can be executed at
-        the address. In a file that `verify_linked` accepts each image with such a command has the address."""
+        the address. In a file that the linked profile accepts each image with such a command has the address."""
         written = ctypes.c_uint64()
         status = load().kesvuot_find_thread_entry(
             self._data.address, len(self._data), self._image, ctypes.byref(written))
@@ -302,7 +308,7 @@ class Image(Slice):
         return _rows.export_of(self._data, written) if status == _library.OK else None
 
     def exports(self) -> Iterator[Tuple[bytes, Export]]:
-        """What the image exports, each with its name, by a walk over the export trie. In a file that `verify_linked`
+        """What the image exports, each with its name, by a walk over the export trie. In a file that the linked profile
         accepts these are all. In any other the walk ends before a node that does not end in the trie, or with which the
         nodes that were met have more bytes than the trie, and it leaves out what is no export. There the names can be
         together far longer than the trie: a program that keeps them adds up their sizes."""
@@ -342,21 +348,21 @@ class Image(Slice):
     def function_starts(self) -> Iterator[int]:
         """The addresses of functions, before any slide, by the first LC_FUNCTION_STARTS. Each is below the next one.
         They end before a number 0 of its data, a number that does not end in it, and an address of 2^64 or more. There
-        are none if the image has no base. In a file that `verify_linked` accepts each is the address of a byte of the
-        file. In any other one can be in no segment."""
+        are none if the image has no base. In a file that the linked profile accepts each is the address of a byte of
+        the file. In any other one can be in no segment."""
         return _rows.batches(self._data, self._image, _rows.FUNCTION_STARTS)
 
     def data_in_code(self) -> Iterator[DataInCode]:
         """The data in the code, by the whole entries of the first LC_DATA_IN_CODE, which can be in any order, and
-        overlap. In a file that `verify_linked` accepts the bytes of each are in one executable segment. In any other
+        overlap. In a file that the linked profile accepts the bytes of each are in one executable segment. In any other
         they can be of no code."""
         return _rows.batches(self._data, self._image, _rows.DATA_IN_CODE)
 
     def blobs(self) -> Iterator[Blob]:
         """The blobs of the code signature, by the first LC_CODE_SIGNATURE, in the order of its index. Each lies past
         the one before it. They end before the first of which this does not hold. There are none if the data is no
-        superblob. In a file that `verify_linked` accepts these are all. The entitlements are the blobs of the slots 5
-        (a property list) and 7 (DER), past their first 8 bytes:
+        superblob. In a file that the linked profile accepts these are all. The entitlements are the blobs of the slots
+        5 (a property list) and 7 (DER), past their first 8 bytes:
 
             next((blob.bytes[8:] for blob in image.blobs() if blob.slot == 5), None)"""
         return _rows.batches(self._data, self._image, _rows.BLOBS)
@@ -381,7 +387,7 @@ class Image(Slice):
         """The pointers to which a dynamic loader adds the slide: the slots of the rebase opcodes of LC_DYLD_INFO or
         LC_DYLD_INFO_ONLY, in their order. Those of chained fixups are not among them. Each call follows the opcodes
         again, as far as the iterator is asked. It raises OpcodeError at an opcode that cannot be followed: then
-        `verify_linked` refuses the file."""
+        the linked profile refuses the file."""
         return _opcodes.rebases(self._data, self)
 
     def binds(self) -> Iterator[Bind]:
@@ -473,46 +479,37 @@ def library_version() -> Tuple[int, int, int]:
     return version >> 16, version >> 8 & 0xFF, version & 0xFF
 
 
-def verify(data: Data, strict: bool = False) -> File:
-    """Judges a file by the rules of docs/RULES.md, and if `strict` by those of the strict profile too. Raises Refused
-    if it breaks one. MemoryError means that there is no verdict."""
-    return _judge(data, load().kesvuot_verify_strictly if strict else load().kesvuot_verify)
+def verify(data: Data, profile: str = DEFAULT) -> File:
+    """Judges a file by the rules of a profile, after all rules of the profiles before it:
 
+    "layout": where the parts that the headers describe lie (docs/RULES.md)
+    "strict": bytes that no header accounts for, or that two parts share (docs/RULES.md)
+    "linked": fixups, exports, functions, data in code, the structure of the code signature, symbols, relocations,
+    threads, and what all other commands hold (docs/LINKED.md)
+    "sealed": whether each image has a code signature, whose hashes are those of the bytes, but not who signed
+    (docs/SEALED.md)
 
-def verify_file(path: Union[str, bytes, "os.PathLike[str]", "os.PathLike[bytes]"], strict: bool = False) -> File:
-    """Reads a file into memory, and judges it as `verify` does. Links are followed. Raises OSError if it cannot be
-    read, is a folder, a pipe, a socket or a device, or has more than 4 GiB, as `macho-check` does not read it then.
-    `File.data` are its bytes."""
-    return verify(_reading.read_regular(path), strict)
-
-
-def verify_linked(data: Data) -> File:
-    """Judges a file by the rules of the strict profile, and then by those of docs/LINKED.md: where the linked data of
-    an image lies, what the opcodes of LC_DYLD_INFO and LC_DYLD_INFO_ONLY, the table of LC_DYLD_CHAINED_FIXUPS and the
-    chains of pointers in the pages ask a dynamic loader for, what the image exports, where functions start and data is
-    in code, how a code signature is built, what symbols and relocations refer to, where threads begin, and what all
-    other commands of loader.h hold. Raises what `verify` raises."""
-    return _judge(data, load().kesvuot_verify_linked)
-
-
-def verify_sealed(data: Data) -> File:
-    """Judges a file by the rules of the linked profile, and then by those of docs/SEALED.md: each image has a code
-    signature; the hashes in each of its code directories are those of all bytes before the signature, and of the blobs
-    in special slots; and from the signature on, each byte that is not zero is in its header, its index or a blob.
-    It does not say who signed, and nothing outside of the file is read. Raises what `verify` raises."""
-    return _judge(data, load().kesvuot_verify_sealed)
-
-
-def _judge(data: Data, call: Any) -> File:
+    Raises Refused if the file breaks a rule, and ValueError if no profile has the name. MemoryError means that there is
+    no verdict."""
     file = Bytes(data)
     verdict = ctypes.create_string_buffer(VERDICT.size)
-    status = call(file.address, len(file.view), verdict)
+    number = PROFILES[profile].number if profile in PROFILES else 0
+    status = load().kesvuot_verify(file.address, len(file.view), number, verdict)
     place, slices, rule = VERDICT.unpack(verdict)
     if status == _library.REFUSED:
         raise Refused(rule_name(rule), place)
+    if status == _library.UNKNOWN_PROFILE:
+        raise ValueError(f"unknown profile {profile!r}: choose from {', '.join(PROFILES)}")
     if status != _library.OK:
         raise MemoryError("no memory to judge the file")
     return File(file, slices)
+
+
+def verify_file(path: Union[str, bytes, "os.PathLike[str]", "os.PathLike[bytes]"], profile: str = DEFAULT) -> File:
+    """Reads a file into memory, and judges it as `verify` does. Links are followed. Raises OSError if it cannot be
+    read, is a folder, a pipe, a socket or a device, or has more than 4 GiB, as `macho-check` does not read it then.
+    `File.data` are its bytes."""
+    return verify(_reading.read_regular(path), profile)
 
 
 def command_name(cmd: SupportsIndex) -> Optional[str]:
@@ -545,6 +542,15 @@ def arch_named(name: Union[Data, str]) -> Optional[Tuple[int, int]]:
 def rule_name(rule: int) -> str:
     """The name of the rule with this number, empty if there is none."""
     return _name(load().kesvuot_find_rule, rule) or ""
+
+
+@lru_cache(maxsize=None)
+def rule_numbers() -> Dict[str, int]:
+    """The number of each rule, by its name."""
+    numbers: Dict[str, int] = {}
+    while rule_name(len(numbers) + 1):
+        numbers[rule_name(len(numbers) + 1)] = len(numbers) + 1
+    return numbers
 
 
 def _bytes_of(name: Union[Data, str]) -> Bytes:

@@ -15,7 +15,7 @@ Data = Union[bytes, bytearray, memoryview, mmap.mmap]
 SONAME, MAJOR = "libkesvuot.so.2", 2
 # Where `make install-lib` puts this package, and where the archive of `make dist` has it: below the folder of `lib`.
 INSTALLED = re.compile("(.*)/(?:lib/python3[^/]*/(?:site|dist)-packages|share/kesvuot/python)/kesvuot")
-OK, REFUSED, NO_MEMORY, NONE, UNREAD, ZERO = range(6)
+OK, REFUSED, NO_MEMORY, NONE, UNREAD, ZERO, UNKNOWN_PROFILE = range(7)
 HAS_UUID, HAS_BASE, HAS_ENTRY, HAS_SYMTAB, HAS_DYSYMTAB, HAS_ID = 1, 2, 4, 8, 16, 32
 NO_SECTION = NO_INDEX = 0xFFFF_FFFF
 
@@ -68,15 +68,14 @@ def _declare(library: Any) -> None:
     """Gives each call its types, as in kesvuot.h."""
     pointer, size, u32, u64 = ctypes.c_void_p, ctypes.c_size_t, ctypes.c_uint32, ctypes.c_uint64
     calls: Dict[str, Tuple[Any, List[Any]]] = {
+        "find_profile": (u32, [u32, pointer]),
         "find_rule": (u32, [u32, pointer]),
+        "rule_profile": (u32, [u32]),
         "find_command": (u32, [u32, pointer]),
         "find_platform": (u32, [u32, pointer]),
         "find_arch": (u32, [u32, u32, pointer]),
         "arch_named": (u32, [pointer, size, pointer, pointer]),
-        "verify": (u32, [pointer, size, pointer]),
-        "verify_strictly": (u32, [pointer, size, pointer]),
-        "verify_linked": (u32, [pointer, size, pointer]),
-        "verify_sealed": (u32, [pointer, size, pointer]),
+        "verify": (u32, [pointer, size, u32, pointer]),
         "explain": (u32, [pointer, size, pointer, pointer]),
         "layout": (u32, [pointer, size, pointer, size, pointer]),
         "read_image": (u32, [pointer, size, u64, pointer]),

@@ -14,9 +14,8 @@ from ._files import File, Refused
 from ._names import size_text
 from ._output import Output, WriteFailed, say
 from ._parts import Part, parts_of
-from ._profiles import link
 from ._reading import Contents
-from ._reports import reason_text, rule_text, shown
+from ._reports import link, reason_text, rule_text, shown
 from ._rules import RULES
 from ._stories import Told, told_of
 

@@ -34,7 +34,7 @@ BIND_OPCODES = (
     "SET_SYMBOL_TRAILING_FLAGS_IMM", "SET_TYPE_IMM", "SET_ADDEND_SLEB", "SET_SEGMENT_AND_OFFSET_ULEB", "ADD_ADDR_ULEB",
     "DO_BIND", "DO_BIND_ADD_ADDR_ULEB", "DO_BIND_ADD_ADDR_IMM_SCALED", "DO_BIND_ULEB_TIMES_SKIPPING_ULEB")
 
-# CS_HASHTYPE_*: the words in which macho-sealed prints them.
+# CS_HASHTYPE_*: the words in which `macho-verify sealed` prints them.
 HASH_TYPES = {1: "sha1", 2: "sha256", 3: "sha256-truncated", 4: "sha384"}
 
 # VM_PROT_READ, VM_PROT_WRITE and VM_PROT_EXECUTE.

@@ -48,7 +48,7 @@ SEGMENTS = 16
 
 class OpcodeError(ValueError):
     """An opcode cannot be followed: `reason` says why, and `place` is its offset in the file. For a second command with
-    opcodes it is that of the command. `verify_linked` refuses all files with such opcodes."""
+    opcodes it is that of the command. The linked profile refuses all files with such opcodes."""
 
     def __init__(self, reason: str, place: int) -> None:
         super().__init__(reason, place)
@@ -61,8 +61,8 @@ class OpcodeError(ValueError):
 
 class Rebase(NamedTuple):
     """A pointer, to which a dynamic loader adds the slide. `segment` is the index in `Image.segments` of the segment
-    that has it. In all files that `verify_linked` accepts `kind` is 1 (REBASE_TYPE_POINTER), or 0 if no opcode has set
-    it."""
+    that has it. In all files that the linked profile accepts `kind` is 1 (REBASE_TYPE_POINTER), or 0 if no opcode has
+    set it."""
 
     address: int
     segment: int

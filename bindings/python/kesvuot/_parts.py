@@ -100,7 +100,7 @@ class Part(NamedTuple):
     initprot: int = 0
 
 
-# Which parts have bytes of their own: those that macho-strict calls elements, and those that the headers consist of.
+# Which parts have bytes of their own: the elements of the strict profile, and what the headers consist of.
 ELEMENTS = frozenset(("universal header", "headers", "section", "relocations", "table", "slice not read"))
 
 

@@ -10,7 +10,6 @@ from urllib.parse import quote
 from xml.sax.saxutils import escape, quoteattr
 
 from ._check import ACCEPTED, NO_VERDICT, REFUSED, SKIPPED, Outcome, Summary
-from ._profiles import link
 from ._rules import RULES
 
 Write = Callable[[str], Any]
@@ -29,6 +28,11 @@ def shown(path: str) -> str:
 def rule_text(rule: str) -> str:
     """When a rule is broken."""
     return f"Broken when {RULES[rule].broken}"
+
+
+def link(rule: str) -> str:
+    """The section of a rule on its page."""
+    return f"{RULES[rule].page}#{rule}"
 
 
 def kind_text(outcome: Outcome) -> str:

@@ -185,10 +185,10 @@ class DataInCode(NamedTuple):
 
 
 class CodeDirectory(NamedTuple):
-    """A CS_CodeDirectory of <kern/cs_blobs.h>: what was signed, and the hashes of its pages. In a file that
-    `verify_linked` accepts, the names and the hashes lie in the blob, the type of the hashes is known, and `limit` is
-    where the signature begins in the image: there is a hash for each page before that. That the pages have these hashes
-    is what `verify_sealed` judges.
+    """A CS_CodeDirectory of <kern/cs_blobs.h>: what was signed, and the hashes of its pages. In a file that the linked
+    profile accepts, the names and the hashes lie in the blob, the type of the hashes is known, and `limit` is where the
+    signature begins in the image: there is a hash for each page before that. The sealed profile judges whether the
+    pages have these hashes.
 
     `bytes`: the whole blob, with its magic and its length
     `identifier`, `team`: without the zero byte past them, empty if there is none
@@ -221,7 +221,8 @@ class CodeDirectory(NamedTuple):
 
     def cdhash(self) -> Optional[Hash]:
         """What `codesign` prints and servers look up: the first 20 bytes (CS_CDHASH_LEN) of the digest, or None without
-        one. It names the bytes of the directory alone: `verify_sealed` judges whether the pages have the hashes in it.
+        one. It names the bytes of the directory alone: the sealed profile judges whether the pages have the hashes in
+        it.
 
             print(directory.cdhash().hex())"""
         digest = self.digest()
@@ -229,8 +230,8 @@ class CodeDirectory(NamedTuple):
 
     def digest(self) -> Optional[Hash]:
         """The hash of the whole blob, by the directory's own type of hashes: 20 bytes of SHA-1 and of SHA-256 that is
-        cut, 32 of SHA-256, and 48 of SHA-384. None if the type is not known, which it is in a file that `verify_linked`
-        accepts."""
+        cut, 32 of SHA-256, and 48 of SHA-384. None if the type is not known, which it is in a file that the linked
+        profile accepts."""
         data, written = Bytes(self.bytes), ctypes.create_string_buffer(CDHASH.size)
         if load().kesvuot_read_cdhash(data.address, len(data), _blob_of(data), written) != OK:
             return None
@@ -254,8 +255,8 @@ class Blob(NamedTuple):
 
     def code_directory(self) -> Optional[CodeDirectory]:
         """What the blob says, if it is a code directory. Its slot does not matter. None if it has another magic, a
-        version below 0x20000, fewer bytes than the fields of its version, or a scatter vector. In a file that
-        `verify_linked` accepts, each blob in a slot of code directories (0, 0x1000 to 0x1004) is one."""
+        version below 0x20000, fewer bytes than the fields of its version, or a scatter vector. In a file that the
+        linked profile accepts, each blob in a slot of code directories (0, 0x1000 to 0x1004) is one."""
         data, written = Bytes(self.bytes), ctypes.create_string_buffer(CODE_DIRECTORY.size)
         if load().kesvuot_read_code_directory(data.address, len(data), _blob_of(data), written) != OK:
             return None

@@ -195,8 +195,8 @@ def _add_command(commands: Any, name: str, run: Any, summary: str, description: 
     parser: argparse.ArgumentParser = commands.add_parser(
         name, help=summary, epilog=f"{EXAMPLES}\n{STATUSES}", description=description,
         formatter_class=argparse.RawDescriptionHelpFormatter)
-    parser.add_argument("--profile", choices=tuple(PROFILES), default=DEFAULT, help="the rules: " + "; ".join(
-        f"{name}, {it.text}" for name, it in PROFILES.items()))
+    parser.add_argument("--profile", choices=tuple(PROFILES), default=DEFAULT,
+                        help=f"judge by the rules of this profile and of those before it (default: {DEFAULT})")
     parser.set_defaults(run=run, parser=parser)
     return parser
 

@@ -24,7 +24,7 @@ use std::path::Path;
 use std::process::ExitCode;
 use std::{env, fmt, fs};
 
-use kesvuot::{Image, Section, Segment, Symbol, SymbolIndex};
+use kesvuot::{Image, Profile, Section, Segment, Symbol, SymbolIndex};
 
 /// The tables of an image.
 struct Tables<'a> {
@@ -115,7 +115,7 @@ fn read_address(word: &OsString) -> Result<u64, String> {
 
 fn print_lines(path: &Path, addresses: &[u64]) -> Result<(), Box<dyn Error>> {
     let file = fs::read(path)?;
-    let verified = kesvuot::verify(&file)?;
+    let verified = kesvuot::verify(&file, Profile::Layout)?;
     // fat-empty: some slice is read.
     let image = verified.images().next().ok_or("no slice is read")?;
     let tables = Tables::of(image);

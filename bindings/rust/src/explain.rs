@@ -171,11 +171,11 @@ pub struct Explanation {
 /// the number, or nothing that the rule is about is at the place.
 ///
 /// ```
-/// use kesvuot::{Error, PartKind};
+/// use kesvuot::{Error, PartKind, Profile};
 ///
 /// # let path = concat!(env!("CARGO_MANIFEST_DIR"), "/../../tests/real/program");
 /// # let file = &std::fs::read(path)?[..12000];
-/// if let Err(Error::Refused { rule, place }) = kesvuot::verify(file) {
+/// if let Err(Error::Refused { rule, place }) = kesvuot::verify(file, Profile::Layout) {
 ///     let explanation = kesvuot::explain(file, rule, place).unwrap();
 ///     assert_eq!(explanation.first.unwrap().kind, PartKind::Segment);
 ///     // The segment ends past the file.

@@ -12,6 +12,7 @@ pub const OK: u32 = 0;
 pub const REFUSED: u32 = 1;
 pub const UNREAD: u32 = 4;
 pub const ZERO: u32 = 5;
+pub const UNKNOWN_PROFILE: u32 = 6;
 
 /// The bits of `Image::has`.
 pub const HAS_UUID: u32 = 1;
@@ -281,6 +282,8 @@ struct Text {
 extern "C" {
     fn kesvuot_version() -> u32;
     fn kesvuot_find_rule(rule: u32, name: *mut Text) -> u32;
+    fn kesvuot_rule_profile(rule: u32) -> u32;
+    fn kesvuot_find_profile(profile: u32, name: *mut Text) -> u32;
     fn kesvuot_find_command(cmd: u32, name: *mut Text) -> u32;
     fn kesvuot_find_platform(platform: u32, name: *mut Text) -> u32;
     fn kesvuot_find_arch(cputype: u32, cpusubtype: u32, name: *mut Text) -> u32;
@@ -290,10 +293,8 @@ extern "C" {
         cputype: *mut u32,
         cpusubtype: *mut u32,
     ) -> u32;
-    fn kesvuot_verify(file: *const c_void, size: usize, verdict: *mut Verdict) -> u32;
-    fn kesvuot_verify_strictly(file: *const c_void, size: usize, verdict: *mut Verdict) -> u32;
-    fn kesvuot_verify_linked(file: *const c_void, size: usize, verdict: *mut Verdict) -> u32;
-    fn kesvuot_verify_sealed(file: *const c_void, size: usize, verdict: *mut Verdict) -> u32;
+    fn kesvuot_verify(file: *const c_void, size: usize, profile: u32, verdict: *mut Verdict)
+        -> u32;
     fn kesvuot_explain(
         file: *const c_void,
         size: usize,
@@ -466,6 +467,18 @@ pub fn rule(number: u32) -> Option<&'static str> {
     name_by(|name| unsafe { kesvuot_find_rule(number, name) })
 }
 
+/// The number of the profile that a rule belongs to. 0 if no rule has this number.
+pub fn rule_profile(number: u32) -> u32 {
+    // SAFETY: it takes a number.
+    unsafe { kesvuot_rule_profile(number) }
+}
+
+/// The name of the profile with this number. `None` if no profile has it.
+pub fn profile(number: u32) -> Option<&'static str> {
+    // SAFETY: the name may be written.
+    name_by(|name| unsafe { kesvuot_find_profile(number, name) })
+}
+
 /// The name of the load commands with this `cmd`.
 pub fn command(cmd: u32) -> Option<&'static str> {
     // SAFETY: the name may be written.
@@ -501,32 +514,13 @@ fn check_version() {
     assert_eq!(version >> 16, MAJOR, "libkesvuot has version {version:#x}");
 }
 
-type Judge = unsafe extern "C" fn(*const c_void, usize, *mut Verdict) -> u32;
-
-/// Calls one of the calls that judge, if the structures here are those of the library. Returns
-/// the status and the verdict.
-fn judge(call: Judge, file: &[u8]) -> (u32, Verdict) {
+/// The status, and the verdict by the profile with this number.
+pub fn verify(file: &[u8], profile: u32) -> (u32, Verdict) {
     check_version();
-    let mut verdict = Verdict::default();
+    let (at, mut verdict) = (file.as_ptr().cast(), Verdict::default());
     // SAFETY: the file may be read, and nobody changes it meanwhile. The verdict may be written.
-    let status = unsafe { call(file.as_ptr().cast(), file.len(), &mut verdict) };
+    let status = unsafe { kesvuot_verify(at, file.len(), profile, &mut verdict) };
     (status, verdict)
-}
-
-pub fn verify(file: &[u8]) -> (u32, Verdict) {
-    judge(kesvuot_verify, file)
-}
-
-pub fn verify_strictly(file: &[u8]) -> (u32, Verdict) {
-    judge(kesvuot_verify_strictly, file)
-}
-
-pub fn verify_linked(file: &[u8]) -> (u32, Verdict) {
-    judge(kesvuot_verify_linked, file)
-}
-
-pub fn verify_sealed(file: &[u8]) -> (u32, Verdict) {
-    judge(kesvuot_verify_sealed, file)
 }
 
 /// The status, and what explains that the file breaks the rule with this number at a place.
@@ -816,7 +810,7 @@ mod tests {
     use std::string::String;
 
     use super::*;
-    use crate::{PartKind, Rule, Table};
+    use crate::{PartKind, Profile, Rule, Table};
 
     /// The numbers of the header that this crate has, as conditions in C.
     fn numbers() -> Vec<String> {
@@ -824,11 +818,16 @@ mod tests {
             let name = rule.name().replace('-', "_").to_uppercase();
             format!("KESVUOT_{name} == {}", rule.number())
         });
+        let profiles = Profile::ALL.iter().map(|profile| {
+            let name = profile.name().to_uppercase();
+            format!("KESVUOT_{name} == {}", profile.number())
+        });
         let others = [
             ("OK", OK),
             ("REFUSED", REFUSED),
             ("UNREAD", UNREAD),
             ("ZERO", ZERO),
+            ("UNKNOWN_PROFILE", UNKNOWN_PROFILE),
             ("HAS_UUID", HAS_UUID),
             ("HAS_BASE", HAS_BASE),
             ("HAS_ENTRY", HAS_ENTRY),
@@ -849,7 +848,12 @@ mod tests {
             let name = constant(&format!("{table:?}"));
             format!("KESVUOT_TABLE{name} == {}", table.number())
         });
-        rules.chain(others).chain(kinds).chain(tables).collect()
+        rules
+            .chain(profiles)
+            .chain(others)
+            .chain(kinds)
+            .chain(tables)
+            .collect()
     }
 
     /// The name of a variant as C has it, with a `_` before each word.

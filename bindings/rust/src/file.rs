@@ -7,7 +7,7 @@ use std::io::{self, Read};
 use std::path::Path;
 use std::vec::Vec;
 
-use crate::{Error, VerifiedBuf};
+use crate::{Error, Profile, VerifiedBuf};
 
 /// The most bytes of a file that is read. `macho-check` has the same limit.
 const LIMIT: u64 = 1 << 32;
@@ -55,12 +55,11 @@ impl From<Error> for FileError {
 /// Reads a file into memory, and judges it as [`verify`](crate::verify) does. Links are followed. A
 /// folder, a pipe, a socket or a device is not read, and neither is a file of more than 4 GiB.
 ///
-/// For the other profiles judge the bytes of the result, as by
-/// [`verify_strictly`](crate::verify_strictly).
-///
 /// ```
+/// use kesvuot::Profile;
+///
 /// # let path = concat!(env!("CARGO_MANIFEST_DIR"), "/../../tests/real/program");
-/// let file = kesvuot::verify_file(path)?;
+/// let file = kesvuot::verify_file(path, Profile::Strict)?;
 /// for image in file.as_verified().images() {
 ///     println!("{image:?}");
 /// }
@@ -74,9 +73,9 @@ impl From<Error> for FileError {
 /// # Panics
 ///
 /// If the library that is linked is of another major version.
-pub fn verify_file(path: impl AsRef<Path>) -> Result<VerifiedBuf, FileError> {
+pub fn verify_file(path: impl AsRef<Path>, profile: Profile) -> Result<VerifiedBuf, FileError> {
     let bytes = read(path.as_ref(), LIMIT)?;
-    Ok(VerifiedBuf::verify(bytes)?)
+    Ok(VerifiedBuf::verify(bytes, profile)?)
 }
 
 /// The bytes of a regular file, of which there are no more than the limit.
@@ -140,9 +139,12 @@ mod tests {
             rule: Rule::Magic,
             place: 0,
         };
-        assert!(matches!(verify_file(&path), Err(FileError::Judged(error)) if error == refused));
+        for &profile in Profile::ALL {
+            let answer = verify_file(&path, profile);
+            assert!(matches!(answer, Err(FileError::Judged(error)) if error == refused));
+        }
         fs::remove_file(&path).unwrap();
-        let missing = verify_file(&path).unwrap_err();
+        let missing = verify_file(&path, Profile::Layout).unwrap_err();
         assert!(
             matches!(missing, FileError::Unread(error) if error.kind() == io::ErrorKind::NotFound)
         );

@@ -183,14 +183,14 @@ impl<'a> Image<'a> {
     /// The address at which the first `LC_THREAD` or `LC_UNIXTHREAD` begins, before any slide, such as that
     /// of a program that Go links. `None` if there is no such command, its registers are not known, or the file
     /// has no byte that can be executed at the address. In a file that
-    /// [`verify_linked`](crate::verify_linked) accepts each image with such a command has the address.
+    /// [`Profile::Linked`](crate::Profile::Linked) accepts each image with such a command has the address.
     ///
     /// Each call rescans the load commands.
     ///
     /// ```
     /// # let path = concat!(env!("CARGO_MANIFEST_DIR"), "/../../tests/real/program");
     /// # let file = std::fs::read(path)?;
-    /// # let image = kesvuot::verify(&file)?.image(0).unwrap();
+    /// # let image = kesvuot::verify(&file, kesvuot::Profile::Layout)?.image(0).unwrap();
     /// let entry = image.entry().or_else(|| image.thread_entry());
     /// assert_eq!(entry, Some(0x1_0000_0440));
     /// assert_eq!(image.thread_entry(), None);
@@ -246,7 +246,7 @@ impl<'a> Image<'a> {
     /// ```
     /// # let path = concat!(env!("CARGO_MANIFEST_DIR"), "/../../tests/real/program");
     /// # let file = std::fs::read(path)?;
-    /// # let image = kesvuot::verify(&file)?.image(0).unwrap();
+    /// # let image = kesvuot::verify(&file, kesvuot::Profile::Layout)?.image(0).unwrap();
     /// let sections: Vec<_> = image.sections().collect();
     /// for segment in image.segments() {
     ///     for section in &sections[segment.section_range()] {
@@ -371,7 +371,7 @@ impl<'a> Image<'a> {
     /// ```
     /// # let path = concat!(env!("CARGO_MANIFEST_DIR"), "/../../tests/real/program");
     /// # let file = std::fs::read(path)?;
-    /// # let image = kesvuot::verify(&file)?.image(0).unwrap();
+    /// # let image = kesvuot::verify(&file, kesvuot::Profile::Layout)?.image(0).unwrap();
     /// let (index, symbol) = image.symbol_named("_start").unwrap();
     /// assert_eq!(symbol.value, 0x1_0000_0440);
     /// assert_eq!(image.symbol(index), Some(symbol));
@@ -393,7 +393,7 @@ impl<'a> Image<'a> {
     /// ```
     /// # let path = concat!(env!("CARGO_MANIFEST_DIR"), "/../../tests/real/program");
     /// # let file = std::fs::read(path)?;
-    /// # let image = kesvuot::verify(&file)?.image(0).unwrap();
+    /// # let image = kesvuot::verify(&file, kesvuot::Profile::Layout)?.image(0).unwrap();
     /// use kesvuot::ExportKind;
     ///
     /// let start = image.find_export("_start").unwrap();
@@ -408,14 +408,14 @@ impl<'a> Image<'a> {
     }
 
     /// What the image exports, each with its name, by a walk over the export trie. In a file that
-    /// [`verify_linked`](crate::verify_linked) accepts these are all. In any other the walk ends before a node that
-    /// does not end in the trie, or with which the nodes that were met have more bytes than the trie, and it leaves
-    /// out what is no export.
+    /// [`Profile::Linked`](crate::Profile::Linked) accepts these are all. In any other the walk ends before a node
+    /// that does not end in the trie, or with which the nodes that were met have more bytes than the trie, and it
+    /// leaves out what is no export.
     ///
     /// ```
     /// # let path = concat!(env!("CARGO_MANIFEST_DIR"), "/../../tests/real/program");
     /// # let file = std::fs::read(path)?;
-    /// # let image = kesvuot::verify(&file)?.image(0).unwrap();
+    /// # let image = kesvuot::verify(&file, kesvuot::Profile::Layout)?.image(0).unwrap();
     /// for (name, export) in image.exports() {
     ///     assert_eq!(image.find_export(name), Some(export));
     /// }
@@ -474,7 +474,7 @@ impl<'a> Image<'a> {
     /// ```
     /// # let path = concat!(env!("CARGO_MANIFEST_DIR"), "/../../tests/real/program");
     /// # let file = std::fs::read(path)?;
-    /// # let image = kesvuot::verify(&file)?.image(0).unwrap();
+    /// # let image = kesvuot::verify(&file, kesvuot::Profile::Layout)?.image(0).unwrap();
     /// use kesvuot::Table;
     ///
     /// let strings = image.table(Table::Strings).unwrap();
@@ -498,13 +498,14 @@ impl<'a> Image<'a> {
 
     /// The addresses of functions, before any slide, by the first `LC_FUNCTION_STARTS`. Each is below the next
     /// one. They end before a number 0 of its data, a number that does not end in it, and an address of 2^64 or
-    /// more. There are none if the image has no base. In a file that [`verify_linked`](crate::verify_linked)
-    /// accepts each is the address of a byte of the file. In any other one can be in no segment.
+    /// more. There are none if the image has no base. In a file that
+    /// [`Profile::Linked`](crate::Profile::Linked) accepts each is the address of a byte of the file. In any other
+    /// one can be in no segment.
     ///
     /// ```
     /// # let path = concat!(env!("CARGO_MANIFEST_DIR"), "/../../tests/real/program");
     /// # let file = std::fs::read(path)?;
-    /// # let image = kesvuot::verify(&file)?.image(0).unwrap();
+    /// # let image = kesvuot::verify(&file, kesvuot::Profile::Layout)?.image(0).unwrap();
     /// let starts: Vec<u64> = image.function_starts().collect();
     /// assert_eq!(starts, [0x1_0000_0440]);
     /// # Ok::<(), Box<dyn std::error::Error>>(())
@@ -515,7 +516,7 @@ impl<'a> Image<'a> {
     }
 
     /// The data in the code, by the whole entries of the first `LC_DATA_IN_CODE`, which can be in any order, and
-    /// overlap. In a file that [`verify_linked`](crate::verify_linked) accepts the bytes of each are in one
+    /// overlap. In a file that [`Profile::Linked`](crate::Profile::Linked) accepts the bytes of each are in one
     /// executable segment. In any other they can be of no code.
     #[must_use]
     pub fn data_in_code(&self) -> UncountedRows<'a, DataInCode<'a>> {
@@ -524,14 +525,14 @@ impl<'a> Image<'a> {
 
     /// The blobs of the code signature, by the first `LC_CODE_SIGNATURE`, in the order of its index. Each lies
     /// past the one before it. They end before the first of which this does not hold. There are none if the data
-    /// is no superblob. In a file that [`verify_linked`](crate::verify_linked) accepts these are all.
+    /// is no superblob. In a file that [`Profile::Linked`](crate::Profile::Linked) accepts these are all.
     ///
     /// The entitlements are the blobs of the slots 5 (a property list) and 7 (DER), past their first 8 bytes:
     ///
     /// ```
     /// # let path = concat!(env!("CARGO_MANIFEST_DIR"), "/../../tests/real/library");
     /// # let file = std::fs::read(path)?;
-    /// # let image = kesvuot::verify(&file)?.image(1).unwrap();
+    /// # let image = kesvuot::verify(&file, kesvuot::Profile::Layout)?.image(1).unwrap();
     /// let entitlements = image.blobs().find(|blob| blob.slot == 5).map(|blob| &blob.bytes[8..]);
     /// assert_eq!(entitlements, None);
     ///
@@ -552,7 +553,7 @@ impl<'a> Image<'a> {
     /// ```
     /// # let path = concat!(env!("CARGO_MANIFEST_DIR"), "/../../tests/real/program");
     /// # let file = std::fs::read(path)?;
-    /// # let image = kesvuot::verify(&file)?.image(0).unwrap();
+    /// # let image = kesvuot::verify(&file, kesvuot::Profile::Layout)?.image(0).unwrap();
     /// use kesvuot::Source;
     ///
     /// assert!(matches!(image.at(0x1_0000_0440), Some(Source::Bytes([0x55, ..]))));
@@ -575,7 +576,7 @@ impl<'a> Image<'a> {
     /// ```
     /// # let path = concat!(env!("CARGO_MANIFEST_DIR"), "/../../tests/real/library");
     /// # let file = std::fs::read(path)?;
-    /// # let verified = kesvuot::verify(&file)?;
+    /// # let verified = kesvuot::verify(&file, kesvuot::Profile::Layout)?;
     /// let image = verified.image(1).unwrap();
     /// let text = image.segments().next().unwrap();
     /// assert_eq!(image.place_of(text.bytes), Some(image.place() + text.fileoff));

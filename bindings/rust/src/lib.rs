@@ -6,9 +6,11 @@
 //! of commands that it does not list, are whatever the file says.
 //!
 //! ```
+//! use kesvuot::Profile;
+//!
 //! # let path = concat!(env!("CARGO_MANIFEST_DIR"), "/../../tests/real/program");
 //! let file = std::fs::read(path)?;
-//! let verified = kesvuot::verify(&file)?;
+//! let verified = kesvuot::verify(&file, Profile::Layout)?;
 //! for image in verified.images() {
 //!     for segment in image.segments() {
 //!         println!("{} has {} bytes", segment.name.escape_ascii(), segment.bytes.len());
@@ -18,12 +20,15 @@
 //! # Ok::<(), Box<dyn std::error::Error>>(())
 //! ```
 //!
+//! The [`Profile`] says how much is judged. Each profile accepts fewer files than the one before it, and promises
+//! more of them.
+//!
 //! A file that is refused breaks a rule, at an offset:
 //!
 //! ```
-//! use kesvuot::{Error, Rule};
+//! use kesvuot::{Error, Profile, Rule};
 //!
-//! let error = kesvuot::verify(b"no image").unwrap_err();
+//! let error = kesvuot::verify(b"no image", Profile::Layout).unwrap_err();
 //! assert_eq!(error, Error::Refused { rule: Rule::Magic, place: 0 });
 //! assert_eq!(error.to_string(), "refused: magic at 0x0");
 //! ```
@@ -57,6 +62,7 @@ mod file;
 mod image;
 mod named_symbols;
 mod parts;
+mod profile;
 mod rows;
 mod rule;
 mod signature;
@@ -74,13 +80,14 @@ pub use parts::{
     Build, Command, DataInCode, Export, ExportKind, Indirect, Library, Relocation, Section,
     Segment, Symbol, Table,
 };
+pub use profile::{ParseProfileError, Profile};
 pub use rows::{Rows, UncountedRows};
 pub use rule::{ParseRuleError, Rule};
 pub use signature::{Blob, CdHash, CodeDirectory};
 pub use symbol_index::SymbolIndex;
 pub use verified::{Slice, Slices, Verified, VerifiedBuf};
 
-/// Judges a file by the rules of the layout.
+/// Judges a file by the rules of a [`Profile`].
 ///
 /// # Errors
 ///
@@ -89,70 +96,8 @@ pub use verified::{Slice, Slices, Verified, VerifiedBuf};
 /// # Panics
 ///
 /// If the library that is linked is of another major version.
-pub fn verify(file: &[u8]) -> Result<Verified<'_>, Error> {
-    Verified::new(file, ffi::verify(file))
-}
-
-/// Judges a file by the rules of the strict profile too: every nonzero byte is accounted for, and
-/// no byte belongs to two elements, such as the headers, a section or a table. `docs/RULES.md` says
-/// what that means. Whatever is accepted here is accepted by [`verify`].
-///
-/// # Errors
-///
-/// The first broken rule, or that memory ran out.
-///
-/// # Panics
-///
-/// If the library that is linked is of another major version.
-pub fn verify_strictly(file: &[u8]) -> Result<Verified<'_>, Error> {
-    Verified::new(file, ffi::verify_strictly(file))
-}
-
-/// Judges a file by the rules of the linked profile too, after those of [`verify_strictly`]: where
-/// the linked data of an image lies, what the opcodes of `LC_DYLD_INFO` and `LC_DYLD_INFO_ONLY`, the
-/// table of `LC_DYLD_CHAINED_FIXUPS` and the chains of pointers in the pages ask a dynamic loader for,
-/// what the image exports, where functions start and data is in code, how a code signature is built,
-/// what symbols and relocations refer to, where threads begin, and what all other commands of `loader.h`
-/// hold. `docs/LINKED.md` says what that means. Whatever is accepted here is accepted by
-/// [`verify_strictly`].
-///
-/// # Errors
-///
-/// The first broken rule, or that memory ran out.
-///
-/// # Panics
-///
-/// If the library that is linked is of another major version.
-pub fn verify_linked(file: &[u8]) -> Result<Verified<'_>, Error> {
-    Verified::new(file, ffi::verify_linked(file))
-}
-
-/// Judges a file by the rules of the sealed profile too, after those of [`verify_linked`]: each image has a
-/// code signature; the hashes in each of its code directories are those of all bytes before the signature, and
-/// of the blobs in special slots; and from the signature on, each byte that is not 0 is in its header, its
-/// index or a blob. `docs/SEALED.md` says what that means, and what it does not: it does not say who signed, and
-/// nothing outside of the file is read. Whatever is accepted here is accepted by [`verify_linked`].
-///
-/// ```
-/// use kesvuot::{Error, Rule};
-///
-/// # let path = concat!(env!("CARGO_MANIFEST_DIR"), "/../../tests/real/program");
-/// let file = std::fs::read(path)?;
-/// assert!(kesvuot::verify_linked(&file).is_ok());
-/// let error = kesvuot::verify_sealed(&file).unwrap_err();
-/// assert_eq!(error, Error::Refused { rule: Rule::SignatureMissing, place: 0 });
-/// # Ok::<(), std::io::Error>(())
-/// ```
-///
-/// # Errors
-///
-/// The first broken rule, or that memory ran out.
-///
-/// # Panics
-///
-/// If the library that is linked is of another major version.
-pub fn verify_sealed(file: &[u8]) -> Result<Verified<'_>, Error> {
-    Verified::new(file, ffi::verify_sealed(file))
+pub fn verify(file: &[u8], profile: Profile) -> Result<Verified<'_>, Error> {
+    Verified::new(file, ffi::verify(file, profile.number()))
 }
 
 /// The name of the load commands with this `cmd` in `<mach-o/loader.h>`, such as `LC_SEGMENT_64`. `None`

@@ -31,7 +31,7 @@ impl<'a> Rows<'a, Symbol> {
     /// ```
     /// # let path = concat!(env!("CARGO_MANIFEST_DIR"), "/../../tests/real/program");
     /// # let file = std::fs::read(path)?;
-    /// # let image = kesvuot::verify(&file)?.image(0).unwrap();
+    /// # let image = kesvuot::verify(&file, kesvuot::Profile::Layout)?.image(0).unwrap();
     /// for (symbol, name) in image.symbols().with_names() {
     ///     assert_eq!(name, image.name(&symbol));
     /// }

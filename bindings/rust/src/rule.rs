@@ -3,12 +3,11 @@
 use core::fmt;
 use core::str::{self, FromStr};
 
-use crate::ffi;
+use crate::{ffi, Profile};
 
 macro_rules! rules {
     ($($(#[$doc:meta])* $name:ident = $number:literal,)*) => {
-        /// A rule of the layout, or of the strict, the linked or the sealed profile. They are in the order
-        /// of judgment.
+        /// A rule of a [`Profile`]. The variants are in the order of judgment, profile after profile.
         ///
         /// `docs/RULES.md` says when each is broken, what usually breaks it, and what to do. For the
         /// linked profile `docs/LINKED.md` does, and for the sealed one `docs/SEALED.md`.
@@ -231,6 +230,19 @@ impl Rule {
     pub fn name(self) -> &'static str {
         ffi::rule(self.number()).unwrap_or_default()
     }
+
+    /// The profile that the rule belongs to. `None` where the library has no rule of this number, or the profile
+    /// is newer than this crate.
+    ///
+    /// ```
+    /// use kesvuot::{Profile, Rule};
+    ///
+    /// assert_eq!(Rule::StrayByte.profile(), Some(Profile::Strict));
+    /// ```
+    #[must_use]
+    pub fn profile(self) -> Option<Profile> {
+        Profile::from_number(ffi::rule_profile(self.number()))
+    }
 }
 
 /// The name of the rule.
@@ -271,22 +283,42 @@ impl FromStr for Rule {
 
 #[cfg(test)]
 mod tests {
-    use std::string::ToString;
+    use std::borrow::ToOwned;
+    use std::fs;
+    use std::path::Path;
+    use std::string::{String, ToString};
     use std::vec::Vec;
 
     use super::*;
 
+    /// The rules that a document explains under their names, each with its profile: the given one, or strict after
+    /// a heading that says so.
+    fn explained(name: &str, mut profile: Profile) -> Vec<(String, Option<Profile>)> {
+        let folder = Path::new(env!("CARGO_MANIFEST_DIR")).join("../../docs");
+        let mut found = Vec::new();
+        for line in fs::read_to_string(folder.join(name)).unwrap().lines() {
+            let rule = line.strip_prefix("### `");
+            if line == "## The strict profile" {
+                profile = Profile::Strict;
+            } else if let Some(rule) = rule.and_then(|rule| rule.strip_suffix('`')) {
+                found.push((rule.to_owned(), Some(profile)));
+            }
+        }
+        found
+    }
+
     #[test]
-    fn names_are_the_headings_of_the_documents() {
-        let folder = concat!(env!("CARGO_MANIFEST_DIR"), "/../../docs");
-        let documents = ["RULES.md", "LINKED.md", "SEALED.md"]
-            .map(|name| std::fs::read_to_string(std::path::Path::new(folder).join(name)).unwrap());
-        let headings = documents
-            .iter()
-            .flat_map(|document| document.lines())
-            .filter_map(|line| line.strip_prefix("### `")?.strip_suffix('`'));
-        let names = Rule::ALL.iter().map(|rule| rule.name());
-        assert_eq!(names.collect::<Vec<_>>(), headings.collect::<Vec<_>>());
+    fn names_and_profiles_are_those_of_the_documents() {
+        let rules = Rule::ALL.iter();
+        let found: Vec<_> = rules
+            .map(|rule| (rule.name().to_owned(), rule.profile()))
+            .collect();
+        let documents = [
+            explained("RULES.md", Profile::Layout),
+            explained("LINKED.md", Profile::Linked),
+            explained("SEALED.md", Profile::Sealed),
+        ];
+        assert_eq!(found, documents.concat());
     }
 
     #[test]
@@ -307,7 +339,7 @@ mod tests {
     }
 
     #[test]
-    fn a_number_without_a_rule_has_no_name() {
+    fn a_number_without_a_rule_has_no_name_and_no_profile() {
         let next = Rule::ALL.iter().map(|rule| rule.number()).max().unwrap() + 1;
         for number in [0, next, u32::MAX] {
             let rule = Rule::from_number(number);
@@ -315,6 +347,7 @@ mod tests {
                 (rule, rule.number(), rule.name()),
                 (Rule::Unknown(number), number, "")
             );
+            assert_eq!(rule.profile(), None);
         }
     }
 }

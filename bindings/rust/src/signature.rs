@@ -45,8 +45,8 @@ impl<'a> Blob<'a> {
     /// What the blob says, if it is a code directory. Its slot does not matter. `None` if it has another
     /// magic, a version below 0x20000, fewer bytes than the fields of its version, or a scatter vector.
     ///
-    /// In a file that [`verify_linked`](crate::verify_linked) accepts, each blob in a slot of code directories
-    /// (0, 0x1000 to 0x1004) is one.
+    /// In a file that [`Profile::Linked`](crate::Profile::Linked) accepts, each blob in a slot of code
+    /// directories (0, 0x1000 to 0x1004) is one.
     #[must_use]
     pub fn code_directory(&self) -> Option<CodeDirectory<'a>> {
         let (status, raw) = ffi::read_code_directory(self.bytes);
@@ -56,9 +56,10 @@ impl<'a> Blob<'a> {
 
 /// A code directory: what was signed, and the hashes of its pages. (`CS_CodeDirectory` of `<kern/cs_blobs.h>`)
 ///
-/// In a file that [`verify_linked`](crate::verify_linked) accepts, the names and the hashes lie in the blob, the
-/// type of the hashes is known, and `limit` is where the signature begins in the image: there is a hash for each
-/// page before that. That the pages have these hashes is what [`verify_sealed`](crate::verify_sealed) judges.
+/// In a file that [`Profile::Linked`](crate::Profile::Linked) accepts, the names and the hashes lie in the blob,
+/// the type of the hashes is known, and `limit` is where the signature begins in the image: there is a hash for
+/// each page before that. That the pages have these hashes is what
+/// [`Profile::Sealed`](crate::Profile::Sealed) judges.
 #[derive(Clone, Copy, PartialEq, Eq)]
 #[non_exhaustive]
 pub struct CodeDirectory<'a> {
@@ -130,7 +131,7 @@ impl<'a> CodeDirectory<'a> {
     }
 
     /// The hash of the whole blob, by the directory's own type of hashes. `None` if the type is not known, which
-    /// it is in a file that [`verify_linked`](crate::verify_linked) accepts. It takes time in proportion to the
+    /// it is in a file that [`Profile::Linked`](crate::Profile::Linked) accepts. It takes time in proportion to the
     /// blob.
     #[must_use]
     pub fn cdhash(&self) -> Option<CdHash> {
@@ -143,7 +144,7 @@ impl<'a> CodeDirectory<'a> {
 }
 
 /// The hash of a code directory, by which systems know what was signed. It names the bytes of the directory alone:
-/// that the pages have the hashes in it is what [`verify_sealed`](crate::verify_sealed) judges.
+/// that the pages have the hashes in it is what [`Profile::Sealed`](crate::Profile::Sealed) judges.
 ///
 /// It displays as `codesign` prints it: the 20 bytes of [`as_bytes`](CdHash::as_bytes), in hexadecimal.
 #[derive(Clone, Copy, PartialEq, Eq, Hash)]

@@ -14,7 +14,7 @@ use crate::{ffi, Image, Symbol};
 /// ```
 /// # let path = concat!(env!("CARGO_MANIFEST_DIR"), "/../../tests/real/program");
 /// # let file = std::fs::read(path)?;
-/// # let image = kesvuot::verify(&file)?.image(0).unwrap();
+/// # let image = kesvuot::verify(&file, kesvuot::Profile::Layout)?.image(0).unwrap();
 /// let index = image.symbol_index();
 /// let symbol = index.symbol_at(0x1_0000_045a).unwrap();
 /// assert_eq!(image.name(&symbol), Some(b"_start".as_slice()));

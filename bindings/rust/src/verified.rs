@@ -7,11 +7,9 @@ use core::fmt;
 use core::iter::FusedIterator;
 use core::ops::Range;
 
-use crate::{ffi, Error, Image, Rule};
+use crate::{ffi, Error, Image, Profile, Rule};
 
-/// A file that was accepted. Only [`verify`](crate::verify),
-/// [`verify_strictly`](crate::verify_strictly), [`verify_linked`](crate::verify_linked) and
-/// [`verify_sealed`](crate::verify_sealed) make one.
+/// A file that was accepted. Only [`verify`](crate::verify) makes one.
 #[derive(Clone, Copy)]
 pub struct Verified<'a> {
     bytes: &'a [u8],
@@ -32,6 +30,7 @@ impl<'a> Verified<'a> {
                 rule: Rule::from_number(verdict.rule),
                 place: verdict.place,
             }),
+            ffi::UNKNOWN_PROFILE => unreachable!("the library has all profiles of this crate"),
             _ => Err(Error::NoMemory),
         }
     }
@@ -109,10 +108,10 @@ impl fmt::Debug for Verified<'_> {
 /// An accepted file that owns its bytes. [`Verified`] borrows them.
 ///
 /// ```
-/// use kesvuot::VerifiedBuf;
+/// use kesvuot::{Profile, VerifiedBuf};
 ///
 /// fn load(path: &str) -> Result<VerifiedBuf, Box<dyn std::error::Error>> {
-///     Ok(VerifiedBuf::verify(std::fs::read(path)?)?)
+///     Ok(VerifiedBuf::verify(std::fs::read(path)?, Profile::Layout)?)
 /// }
 /// # let path = concat!(env!("CARGO_MANIFEST_DIR"), "/../../tests/real/program");
 /// let file = load(path)?;
@@ -139,54 +138,9 @@ impl VerifiedBuf {
     /// # Panics
     ///
     /// If the library that is linked is of another major version.
-    pub fn verify(bytes: impl Into<Vec<u8>>) -> Result<Self, Error> {
-        VerifiedBuf::judge(bytes.into(), crate::verify)
-    }
-
-    /// Judges a file as [`verify_strictly`](crate::verify_strictly) does, and keeps its bytes.
-    ///
-    /// # Errors
-    ///
-    /// As of [`verify`](VerifiedBuf::verify).
-    ///
-    /// # Panics
-    ///
-    /// If the library that is linked is of another major version.
-    pub fn verify_strictly(bytes: impl Into<Vec<u8>>) -> Result<Self, Error> {
-        VerifiedBuf::judge(bytes.into(), crate::verify_strictly)
-    }
-
-    /// Judges a file as [`verify_linked`](crate::verify_linked) does, and keeps its bytes.
-    ///
-    /// # Errors
-    ///
-    /// As of [`verify`](VerifiedBuf::verify).
-    ///
-    /// # Panics
-    ///
-    /// If the library that is linked is of another major version.
-    pub fn verify_linked(bytes: impl Into<Vec<u8>>) -> Result<Self, Error> {
-        VerifiedBuf::judge(bytes.into(), crate::verify_linked)
-    }
-
-    /// Judges a file as [`verify_sealed`](crate::verify_sealed) does, and keeps its bytes.
-    ///
-    /// # Errors
-    ///
-    /// As of [`verify`](VerifiedBuf::verify).
-    ///
-    /// # Panics
-    ///
-    /// If the library that is linked is of another major version.
-    pub fn verify_sealed(bytes: impl Into<Vec<u8>>) -> Result<Self, Error> {
-        VerifiedBuf::judge(bytes.into(), crate::verify_sealed)
-    }
-
-    fn judge(
-        bytes: Vec<u8>,
-        judge: impl FnOnce(&[u8]) -> Result<Verified<'_>, Error>,
-    ) -> Result<Self, Error> {
-        let slice_count = judge(&bytes)?.slice_count;
+    pub fn verify(bytes: impl Into<Vec<u8>>, profile: Profile) -> Result<Self, Error> {
+        let bytes = bytes.into();
+        let slice_count = crate::verify(&bytes, profile)?.slice_count;
         Ok(VerifiedBuf { bytes, slice_count })
     }
 

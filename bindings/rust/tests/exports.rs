@@ -1,7 +1,10 @@
 //! What an image exports that is made here.
 
+mod support;
+
 use kesvuot::constants::EXPORT_SYMBOL_FLAGS_WEAK_DEFINITION;
 use kesvuot::{Export, ExportKind};
+use support::image_of;
 
 /// A trie, of which each line is a node.
 const TRIE: [&[u8]; 9] = [
@@ -50,7 +53,7 @@ fn with_trie(trie: &[u8]) -> Vec<u8> {
 #[test]
 fn each_kind_is_found() {
     let file = with_trie(&TRIE.concat());
-    let image = kesvuot::verify(&file).unwrap().image(0).unwrap();
+    let image = image_of(&file);
     let kind = |name: &str| image.find_export(name).map(|export: Export| export.kind);
     let base = 0x1_0000_0000;
     assert_eq!(kind("_a"), Some(ExportKind::Regular(base + 0x10)));
@@ -78,7 +81,7 @@ fn each_kind_is_found() {
 
 /// The names and exports of a walk.
 fn walked(file: &[u8]) -> Vec<(String, ExportKind<'_>)> {
-    let image = kesvuot::verify(file).unwrap().image(0).unwrap();
+    let image = image_of(file);
     let exports = image.exports();
     exports
         .map(|(name, export)| (String::from_utf8(name).unwrap(), export.kind))
@@ -88,7 +91,7 @@ fn walked(file: &[u8]) -> Vec<(String, ExportKind<'_>)> {
 #[test]
 fn a_walk_meets_all() {
     let file = with_trie(&TRIE.concat());
-    let image = kesvuot::verify(&file).unwrap().image(0).unwrap();
+    let image = image_of(&file);
     let found = walked(&file);
     let names: Vec<&str> = found.iter().map(|(name, _)| name.as_str()).collect();
     assert_eq!(names, ["_a", "_k", "_o", "_q", "_r", "_s", "_t"]);

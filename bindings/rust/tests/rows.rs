@@ -1,6 +1,9 @@
 //! The iterators, over the symbols of an image that is made here.
 
-use kesvuot::{Image, Rows, Symbol, Verified};
+mod support;
+
+use kesvuot::{Image, Profile, Rows, Symbol, Verified};
+use support::image_of;
 
 /// An executable of a header, `LC_SYMTAB`, and this many symbols without names, whose values count
 /// from 0.
@@ -40,7 +43,7 @@ fn values(symbols: impl Iterator<Item = Symbol>) -> Vec<u64> {
 fn all_rows_come_in_order() {
     for count in [0, 1, 255, 256, 257, 512, 1000] {
         let file = with_symbols(count);
-        let image = kesvuot::verify(&file).unwrap().image(0).unwrap();
+        let image = image_of(&file);
         assert_eq!(
             values(image.symbols()),
             (0..u64::from(count)).collect::<Vec<_>>()
@@ -51,7 +54,7 @@ fn all_rows_come_in_order() {
 #[test]
 fn names_come_with_their_symbols() {
     let file = with_strings(600, 2);
-    let image = kesvuot::verify(&file).unwrap().image(0).unwrap();
+    let image = image_of(&file);
     let mut named = image.symbols().with_names();
     for (index, symbol) in image.symbols().enumerate() {
         assert_eq!(named.len(), 600 - index);
@@ -64,7 +67,7 @@ fn names_come_with_their_symbols() {
 #[test]
 fn the_length_is_that_of_what_is_left() {
     let file = with_symbols(600);
-    let mut symbols = kesvuot::verify(&file).unwrap().image(0).unwrap().symbols();
+    let mut symbols = image_of(&file).symbols();
     for left in (0..=600).rev() {
         assert_eq!(
             (symbols.len(), symbols.size_hint()),
@@ -78,7 +81,7 @@ fn the_length_is_that_of_what_is_left() {
 #[test]
 fn rows_can_be_passed_over() {
     let file = with_symbols(1000);
-    let image = kesvuot::verify(&file).unwrap().image(0).unwrap();
+    let image = image_of(&file);
     for past in [0, 1, 255, 256, 257, 998, 999, 1000, 1001, usize::MAX] {
         let wanted: Vec<_> = (0..1000).skip(past).collect();
         assert_eq!(values(image.symbols().skip(past)), wanted);
@@ -109,7 +112,7 @@ fn rows_can_be_passed_over() {
 #[test]
 fn a_clone_goes_on_by_itself() {
     let file = with_symbols(300);
-    let mut symbols = kesvuot::verify(&file).unwrap().image(0).unwrap().symbols();
+    let mut symbols = image_of(&file).symbols();
     symbols.nth(99);
     let others = symbols.clone();
     assert_eq!(values(symbols), values(others));
@@ -119,7 +122,7 @@ fn a_clone_goes_on_by_itself() {
 fn what_is_read_outlives_the_verdict() {
     let file = with_symbols(1);
     let (symbol, command) = {
-        let verified = kesvuot::verify(&file).unwrap();
+        let verified = kesvuot::verify(&file, Profile::Layout).unwrap();
         let image = verified.image(0).unwrap();
         let symbol = image.symbols().next().unwrap();
         assert_eq!(image.name(&symbol), None);
@@ -169,7 +172,7 @@ fn sections_of_symbols_exist() {
         (N_FUN, 200, None, None),
     ];
     let file = with_sections(&wanted.map(|(kind, sect, ..)| (kind, sect)));
-    let image = kesvuot::verify(&file).unwrap().image(0).unwrap();
+    let image = image_of(&file);
     assert_eq!(image.sections().len(), 2);
     let found = image.symbols().map(|symbol| {
         let Symbol {

@@ -1,7 +1,10 @@
 //! The code signature and the thread of an image that is made here.
 
+mod support;
+
 use kesvuot::constants::{CSSLOT_CODEDIRECTORY, CS_HASHTYPE_SHA1};
-use kesvuot::{Blob, CdHash, CodeDirectory, Error, Rule};
+use kesvuot::{Blob, CdHash, CodeDirectory, Error, Profile, Rule};
+use support::image_of;
 
 const ENTITLEMENTS: u32 = 5;
 const SIGNATURE: u32 = 0x10000;
@@ -47,7 +50,7 @@ fn signed(data: &[u8]) -> Vec<u8> {
 }
 
 fn blobs_of(file: &[u8]) -> Vec<Blob<'_>> {
-    let image = kesvuot::verify(file).unwrap().image(0).unwrap();
+    let image = image_of(file);
     let mut blobs = image.blobs();
     let found = blobs.by_ref().collect();
     assert!(blobs.next().is_none());
@@ -125,7 +128,7 @@ fn a_directory_has_a_hash() {
 /// The second image of the library, which is signed. Its last page begins at 0x4000, and ends where the signature
 /// begins, at 0x4060.
 fn signed_image(library: &[u8]) -> Vec<u8> {
-    let verified = kesvuot::verify(library).unwrap();
+    let verified = kesvuot::verify(library, Profile::Layout).unwrap();
     verified.image(1).unwrap().bytes().to_vec()
 }
 
@@ -136,20 +139,20 @@ fn a_changed_page_has_another_hash() {
         std::fs::read(std::path::Path::new(folder).join(name)).unwrap()
     });
     let image = signed_image(&library);
-    assert!(kesvuot::verify_sealed(&image).is_ok());
+    assert!(kesvuot::verify(&image, Profile::Sealed).is_ok());
     // A constant in the first page, and a letter of a name in the last.
     for (changed_at, place) in [(0x2a8, 0), (0x404a, 0x4000)] {
         let mut changed = image.clone();
         changed[changed_at] ^= 2;
-        assert!(kesvuot::verify_linked(&changed).is_ok());
+        assert!(kesvuot::verify(&changed, Profile::Linked).is_ok());
         let rule = Rule::SignatureHash;
-        let refused = kesvuot::verify_sealed(&changed).unwrap_err();
+        let refused = kesvuot::verify(&changed, Profile::Sealed).unwrap_err();
         assert_eq!(refused, Error::Refused { rule, place });
     }
     // The first image of the library is not signed.
     let rule = Rule::SignatureMissing;
     for (file, place) in [(program, 0), (library, 0x30)] {
-        let refused = kesvuot::verify_sealed(&file).unwrap_err();
+        let refused = kesvuot::verify(&file, Profile::Sealed).unwrap_err();
         assert_eq!(refused, Error::Refused { rule, place });
     }
 }
@@ -222,7 +225,7 @@ fn with_thread(rip: u64) -> Vec<u8> {
 fn a_thread_begins_at_code() {
     let entry = |rip| {
         let file = with_thread(rip);
-        let image = kesvuot::verify(&file).unwrap().image(0).unwrap();
+        let image = image_of(&file);
         assert_eq!(image.entry(), None);
         image.thread_entry()
     };

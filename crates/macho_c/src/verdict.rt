@@ -1,17 +1,15 @@
 //! The verdict on a file.
 
-ghost use Rattle.std.specs.Prelude.{◌≡◌, length};
-ghost use Rattle.macho_fields.specs.RuleList.{rule_number};
+ghost use Rattle.std.specs.Prelude.{◌≡◌, length, IfNone, IfSome};
+ghost use Rattle.macho_fields.specs.RuleList.{profile_numbered, rule_number};
 ghost use Rattle.macho_fields.specs.Universal.{slices_of};
-ghost use Rattle.macho_rows.specs.Status.{KESVUOT_OK, KESVUOT_REFUSED, KESVUOT_NO_MEMORY};
-ghost use Rattle.macho_c.specs.Verdict.{Has, IsVerdict, IsStrictVerdict, IsLinkedVerdict, IsSealedVerdict};
+ghost use Rattle.macho_rows.specs.Status.{KESVUOT_OK, KESVUOT_REFUSED, KESVUOT_NO_MEMORY, KESVUOT_UNKNOWN_PROFILE};
+ghost use Rattle.macho_c.specs.Verdict.{Has, IsVerdict};
 
-use macho_fields::Break;
-use macho_linked::verify_linked;
-use macho_rows::status::{NO_MEMORY, OK, REFUSED};
-use macho_rules::{Refusal, Verified, verify};
-use macho_sealed::verify_sealed;
-use macho_strict::verify_strictly;
+use macho_fields::{Break, Profile};
+use macho_profiles::verify_by;
+use macho_rows::status::{NO_MEMORY, OK, REFUSED, UNKNOWN_PROFILE};
+use macho_rules::{Refusal, Verified};
 use std::alloc::Global;
 
 /// A verdict. (`struct kesvuot_verdict`)
@@ -28,61 +26,32 @@ pub struct KesvuotVerdict {
     pub reserved: u32,
 }
 
-/// Decides the rules of a file. The status is `OK` if it is accepted, `REFUSED` if it breaks a
-/// rule, and `NO_MEMORY` if there is no verdict.
+/// Decides the rules of a file, of the profiles up to the one with this number. The status is `OK` if
+/// the file is accepted, `REFUSED` if it breaks a rule, and `NO_MEMORY` if there is no verdict. It is
+/// `UNKNOWN_PROFILE` if no profile has the number, and then nothing is written.
 #[unsafe(no_mangle)]
-pub extern "C" fn kesvuot_verify(alloc: Global, file: &[u8], verdict: &mut KesvuotVerdict) -> u32
-    ensures { IsVerdict file.now result verdict.new }
+pub extern "C" fn kesvuot_verify(
+    alloc: Global,
+    file: &[u8],
+    profile: u32,
+    verdict: &mut KesvuotVerdict,
+) -> u32
+    ensures known { IfSome (profile_numbered profile) (λ by.
+        IsVerdict by file.now result verdict.new) }
+    ensures unknown { IfNone (profile_numbered profile)
+        ((result ≡ KESVUOT_UNKNOWN_PROFILE) × (verdict.new ≡ verdict.old)) }
 {
-    match verify(alloc, file) {
-        Ok(verified) => accept(&verified, verdict),
-        Err(Refusal::Broken(broken)) => refuse(broken, verdict),
-        Err(Refusal::Memory) => give_up(verdict),
+    match Profile::with_number(profile) {
+        Some(profile) => judge(alloc, file, profile, verdict),
+        None => UNKNOWN_PROFILE,
     }
 }
 
-/// Decides the rules of a file as `kesvuot_verify` does, and then the strict rules.
-#[unsafe(no_mangle)]
-pub extern "C" fn kesvuot_verify_strictly(
-    alloc: Global,
-    file: &[u8],
-    verdict: &mut KesvuotVerdict,
-) -> u32
-    ensures { IsStrictVerdict file.now result verdict.new }
+// Decides the rules of a file, of the profiles up to this one.
+fn judge(alloc: Global, file: &[u8], profile: Profile, verdict: &mut KesvuotVerdict) -> u32
+    ensures { IsVerdict profile file.now result verdict.new }
 {
-    match verify_strictly(alloc, file) {
-        Ok(verified) => accept(&verified, verdict),
-        Err(Refusal::Broken(broken)) => refuse(broken, verdict),
-        Err(Refusal::Memory) => give_up(verdict),
-    }
-}
-
-/// Decides the rules of a file as `kesvuot_verify_strictly` does, and then the linked rules.
-#[unsafe(no_mangle)]
-pub extern "C" fn kesvuot_verify_linked(
-    alloc: Global,
-    file: &[u8],
-    verdict: &mut KesvuotVerdict,
-) -> u32
-    ensures { IsLinkedVerdict file.now result verdict.new }
-{
-    match verify_linked(alloc, file) {
-        Ok(verified) => accept(&verified, verdict),
-        Err(Refusal::Broken(broken)) => refuse(broken, verdict),
-        Err(Refusal::Memory) => give_up(verdict),
-    }
-}
-
-/// Decides the rules of a file as `kesvuot_verify_linked` does, and then the sealed rules.
-#[unsafe(no_mangle)]
-pub extern "C" fn kesvuot_verify_sealed(
-    alloc: Global,
-    file: &[u8],
-    verdict: &mut KesvuotVerdict,
-) -> u32
-    ensures { IsSealedVerdict file.now result verdict.new }
-{
-    match verify_sealed(alloc, file) {
+    match verify_by(alloc, profile, file) {
         Ok(verified) => accept(&verified, verdict),
         Err(Refusal::Broken(broken)) => refuse(broken, verdict),
         Err(Refusal::Memory) => give_up(verdict),

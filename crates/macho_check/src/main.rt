@@ -9,15 +9,16 @@ mod notation;
 #[cfg(test)]
 mod tests;
 
-use macho_program::{Program, Tool, run_process};
-use macho_report::LayoutRules;
+use macho_program::{MachoCheck, run_process};
 use std::process::ExitCode;
 
 // Runs the tool on the words, the files and the streams of the process.
 fn main(rt: HostRuntime) -> ExitCode {
-    let tool = Tool {
-        program: Program::macho_check(),
-        judge: LayoutRules,
-    };
-    run_process(&rt, &tool, &mut rt.stdin(), rt.stdout(), &mut rt.stderr())
+    run_process(
+        &rt,
+        &MachoCheck,
+        &mut rt.stdin(),
+        rt.stdout(),
+        &mut rt.stderr(),
+    )
 }

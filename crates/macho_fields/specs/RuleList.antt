@@ -1,12 +1,38 @@
 -- The one list of the rules of all profiles: their order, their numbers, their profiles, their names,
 -- and the text of a break, as reports have them.
-use Rattle.std.specs.Prelude.{ℕ, List, ◌++◌, codes, false}
+use Rattle.std.specs.Prelude.{ℕ, List, [], ◌∷◌, ◌++◌, ◌==◌, Option, codes, false, find}
+use Rattle.std.specs.Str.{bytes_eq}
 use Rattle.std.specs.Fmt.{digits}
 use Rattle.macho_fields.specs.declared.rule.Profile.{Profile}
 use Rattle.macho_fields.specs.declared.rule.Profile.TheVariants.{Layout, Strict, Linked, Sealed}
 use Rattle.macho_fields.specs.declared.rule.Rule.{Rule}
 use Rattle.macho_fields.specs.declared.rule.Rule.TheVariants as rule
 use Rattle.macho_fields.specs.declared.rule.Break.{Break}
+
+-- all profiles, in the order of judgment
+abbrev pub all_profiles : List Profile
+all_profiles = Layout ∷ Strict ∷ Linked ∷ Sealed ∷ []
+
+-- the name of a profile, as ASCII text
+abbrev pub profile_name : Profile → List ℕ
+profile_name Layout = codes "layout"
+profile_name Strict = codes "strict"
+profile_name Linked = codes "linked"
+profile_name Sealed = codes "sealed"
+
+-- the number of a profile, which never changes. No profile has the number 0
+abbrev pub profile_number : Profile → ℕ
+profile_number Layout = 1
+profile_number Strict = 2
+profile_number Linked = 3
+profile_number Sealed = 4
+
+-- the profile with this number, and the one with this name
+abbrev pub profile_numbered : ℕ → Option Profile
+profile_numbered number = find (λ profile. profile_number profile == number) all_profiles
+
+abbrev pub profile_named : List ℕ → Option Profile
+profile_named name = find (λ profile. bytes_eq (profile_name profile) name) all_profiles
 
 -- the position of a rule in the order of judgment
 abbrev pub rank : Rule → ℕ

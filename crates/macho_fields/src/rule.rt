@@ -4,23 +4,87 @@ ghost use Rattle.std.specs.Prelude.{◌≡◌, ◌≢◌, ◌++◌, ◌∷◌, [
 ghost use Rattle.std.specs.Fmt.{styled_text};
 ghost use Rattle.std.specs.Fmt.InlineText.{inline_text};
 ghost use Rattle.macho_fields.specs.RuleList.{name_of, rule_number, profile_of, text_of};
+ghost use Rattle.macho_fields.specs.RuleList.{profile_name, profile_named, profile_number, profile_numbered};
 
 use std::fmt;
 use std::fmt::{InlineText, Write};
 
 /// A set of rules that one verdict judges. Each profile is judged where a file breaks no rule of the
-/// profiles before it.
+/// profiles before it. The number of a profile never changes, and 0 is the number of none.
 #[derive(Clone, Copy, Debug, PartialEq, Eq)]
 pub enum Profile {
     /// What `macho_rules::verify` judges: a loader stays inside the file.
-    Layout,
+    Layout = 1,
     /// What `macho_strict::verify_strictly` judges besides: every byte is accounted for.
-    Strict,
+    Strict = 2,
     /// The linked profile of docs/LINKED.md, which says what judges it: a loader that follows the opcodes of
     /// `LC_DYLD_INFO` stays in the segments that it can write.
-    Linked,
+    Linked = 3,
     /// What `macho_sealed::verify_sealed` judges besides: the code signature has the hashes of the bytes before it.
-    Sealed,
+    Sealed = 4,
+}
+
+// The name of a profile with what comes after it, as `name_before` of a rule.
+macro_rules! profile_name_before {
+    ($profile:expr, $end:literal) => {
+        match $profile {
+            Profile::Layout => concat!("layout", $end),
+            Profile::Strict => concat!("strict", $end),
+            Profile::Linked => concat!("linked", $end),
+            Profile::Sealed => concat!("sealed", $end),
+        }
+    };
+}
+
+impl Profile {
+    /// All profiles, in the order of judgment.
+    pub const ALL: &'static [Profile] = &[
+        Profile::Layout,
+        Profile::Strict,
+        Profile::Linked,
+        Profile::Sealed,
+    ];
+
+    /// The name of the profile, in lower case.
+    pub const fn name(self) -> &'static str
+        ensures { result.now ≡ profile_name self }
+    {
+        profile_name_before!(self, "")
+    }
+
+    /// The name of the profile and a zero byte, as C reads it.
+    pub const fn name_with_zero(self) -> &'static str
+        ensures { result.now ≡ profile_name self ++ 0 ∷ [] }
+    {
+        profile_name_before!(self, "\0")
+    }
+
+    /// The number of the profile, which never changes.
+    pub const fn number(self) -> u32
+        ensures { result ≡ profile_number self }
+    {
+        self as u32
+    }
+
+    /// The profile with this number, or `None` where no profile has it.
+    pub fn with_number(number: u32) -> Option<Profile>
+        ensures { result ≡ profile_numbered number }
+    {
+        Profile::ALL
+            .iter()
+            .copied()
+            .find(|profile| profile.number() == number)
+    }
+
+    /// The profile with this name, or `None` where no profile has it.
+    pub fn with_name(name: &str) -> Option<Profile>
+        ensures { result ≡ profile_named name.now }
+    {
+        Profile::ALL
+            .iter()
+            .copied()
+            .find(|profile| profile.name() == name)
+    }
 }
 
 /// A rule, in the order of judgment: profile after profile, and in each the rules of the file before

@@ -6,35 +6,26 @@ use Rattle.std.proofs.lemmas.Option.{same_Some}
 use Rattle.clap.specs.Words.{App, IsAmong, Kinds, Row, Text, fault_of, is_simple, is_simple_and_free, subcommand_of}
 use Rattle.clap.specs.declared.error.kind.ErrorKind.{ErrorKind}
 use Rattle.clap.specs.declared.error.kind.ErrorKind.TheVariants.{OutOfMemory}
-use Rattle.macho_program.specs.Tool.{ProgramView}
 use Rattle.macho_program.specs.declared.words.Request.{Request}
 use Rattle.macho_program.specs.declared.words.WordFault.{WordFault}
 use Rattle.macho_program.specs.declared.words.WordFault.TheVariants.{Usage, Memory}
-use Rattle.macho_program.specs.Words.{Answers, asked_in, asked_of, asked_unless, verdict, program_command, word_fault_of}
+use Rattle.macho_program.specs.Words.{AnswersRequest, asked_in, asked_of, asked_unless, verdict, check_or_where, word_fault_of}
 
-simple_of : (name : Text) (has_where : Bool) → is_simple (program_command record { name = name; has_where = has_where }) ≡ true
-simple_of name true = refl
-simple_of name false = refl
+command_is_simple : is_simple check_or_where ≡ true
+command_is_simple = refl
 
-command_is_simple : (program : ProgramView) → is_simple (program_command program) ≡ true
-command_is_simple program = simple_of program.name program.has_where
-
-free_of : (name : Text) (has_where : Bool) → is_simple_and_free (program_command record { name = name; has_where = has_where }) ≡ true
-free_of name true = refl
-free_of name false = refl
-
-pub command_is_free : (program : ProgramView) → is_simple_and_free (program_command program) ≡ true
-command_is_free program = free_of program.name program.has_where
+pub command_is_free : is_simple_and_free check_or_where ≡ true
+command_is_free = refl
 
 -- the words have no fault for the command of a program, where they have none for the command that was built
-pub no_faults : (program : ProgramView) (app : App) (words : List Text) → app ≡ program_command program → (is_simple_and_free app ≡ true → fault_of app words ≡ [])
-    → fault_of (program_command program) words ≡ []
-no_faults program app words is none = subst (λ (a : App). fault_of a words ≡ []) is (none (ap is_simple_and_free is ∙ command_is_free program))
+pub no_faults : (app : App) (words : List Text) → app ≡ check_or_where → (is_simple_and_free app ≡ true → fault_of app words ≡ [])
+    → fault_of check_or_where words ≡ []
+no_faults app words is none = subst (λ (a : App). fault_of a words ≡ []) is (none (ap is_simple_and_free is ∙ command_is_free))
 
 -- the subcommand that was found with the command that was built is that of the program
-pub subcommand_is : (program : ProgramView) (app : App) (words : List Text) (given : Option (Text × List Row)) → app ≡ program_command program
-    → (is_simple app ≡ true → given ≡ subcommand_of app words) → subcommand_of (program_command program) words ≡ given
-subcommand_is program app words given is found = subst (λ (a : App). subcommand_of a words ≡ given) is (sym (found (ap is_simple is ∙ command_is_simple program)))
+pub subcommand_is : (app : App) (words : List Text) (given : Option (Text × List Row)) → app ≡ check_or_where
+    → (is_simple app ≡ true → given ≡ subcommand_of app words) → subcommand_of check_or_where words ≡ given
+subcommand_is app words given is found = subst (λ (a : App). subcommand_of a words ≡ given) is (sym (found (ap is_simple is ∙ command_is_simple)))
 
 pub some_words : {X : Type 0} (text : X → Text) (words : List X) (empty : Bool) → empty ≡ (length words == 0) → empty ≡ false → 0 < length (map text words)
 some_words text [] empty is not = let bad : true ≡ false = sym is ∙ not in cc
@@ -45,12 +36,12 @@ no_words : {X : Type 0} (text : X → Text) (words : List X) (empty : Bool) → 
 no_words text [] empty is holds = refl
 no_words text (word ∷ words) empty is holds = grind (arith, is, holds)
 
-asked_of_none : (program : ProgramView) (words : List Text) (name : Text) → words ≡ [] → name ≡ codes "-" → asked_of program words ≡ Ok (verdict name)
-asked_of_none program words name none is = rw (none, is) refl
+asked_of_none : (words : List Text) (name : Text) → words ≡ [] → name ≡ codes "-" → asked_of words ≡ Ok (verdict name)
+asked_of_none words name none is = rw (none, is) refl
 
-pub asked_where_empty : {X : Type 0} (program : ProgramView) (text : X → Text) (words : List X) (empty : Bool) (name : Text) → empty ≡ (length words == 0) → empty ≡ true → name ≡ codes "-"
-    → asked_of program (map text words) ≡ Ok (verdict name)
-asked_where_empty program text words empty name is holds name_is = asked_of_none program (map text words) name (no_words text words empty is holds) name_is
+pub asked_where_empty : {X : Type 0} (text : X → Text) (words : List X) (empty : Bool) (name : Text) → empty ≡ (length words == 0) → empty ≡ true → name ≡ codes "-"
+    → asked_of (map text words) ≡ Ok (verdict name)
+asked_where_empty text words empty name is holds name_is = asked_of_none (map text words) name (no_words text words empty is holds) name_is
 
 -- a subcommand, by its name and by its rows
 pub subcommand_met : {X : Type 0} (o : Option X) (f : X → Text × List Row) (name : Text) (rows : List Row)
@@ -64,44 +55,45 @@ no_subcommand None f None is rows = refl
 no_subcommand None f (Some x) is rows = absurd (cc)
 no_subcommand (Some y) f o is rows = absurd (cc)
 
-asked_of_some : (program : ProgramView) (words : List Text) → 0 < length words
-    → asked_unless (fault_of (program_command program) words) (subcommand_of (program_command program) words) ≡ asked_of program words
-asked_of_some program [] some = absurd (omega arith)
-asked_of_some program (word ∷ words) some = refl
+asked_of_some : (words : List Text) → 0 < length words
+    → asked_unless (fault_of check_or_where words) (subcommand_of check_or_where words) ≡ asked_of words
+asked_of_some [] some = absurd (omega arith)
+asked_of_some (word ∷ words) some = refl
 
 -- the answer of a subcommand that `clap` takes
 taken : (faults : Kinds) (sub : Option (Text × List Row)) (name : Text) (rows : List Row) (r : Result Request WordFault)
-    → faults ≡ [] → sub ≡ Some (name, rows) → Answers r (asked_in name rows) → Answers r (asked_unless faults sub)
+    → faults ≡ [] → sub ≡ Some (name, rows) → AnswersRequest r (asked_in name rows) → AnswersRequest r (asked_unless faults sub)
 taken faults sub name rows r none met answers = rw (none, met) answers
 
-pub asked_and_taken : (program : ProgramView) (words : List Text) (name : Text) (rows : List Row) (r : Result Request WordFault) → 0 < length words
-    → fault_of (program_command program) words ≡ [] → subcommand_of (program_command program) words ≡ Some (name, rows) → Answers r (asked_in name rows)
-    → Answers r (asked_of program words)
-asked_and_taken program words name rows r some none met answers = subst (Answers r) (asked_of_some program words some) (taken _ _ name rows r none met answers)
+pub asked_and_taken : (words : List Text) (name : Text) (rows : List Row) (r : Result Request WordFault) → 0 < length words
+    → fault_of check_or_where words ≡ [] → subcommand_of check_or_where words ≡ Some (name, rows) → AnswersRequest r (asked_in name rows)
+    → AnswersRequest r (asked_of words)
+asked_and_taken words name rows r some none met answers = subst (AnswersRequest r) (asked_of_some words some) (taken _ _ name rows r none met answers)
 
 -- `clap` takes the words, and no subcommand is among them
 without_subcommand : (faults : Kinds) (sub : Option (Text × List Row)) → faults ≡ [] → sub ≡ None → asked_unless faults sub ≡ Err Usage
 without_subcommand faults sub none is = rw (none, is) refl
 
-pub asked_without_subcommand : (program : ProgramView) (words : List Text) → 0 < length words → fault_of (program_command program) words ≡ [] → subcommand_of (program_command program) words ≡ None
-    → asked_of program words ≡ Err Usage
-asked_without_subcommand program words some none is = sym (asked_of_some program words some) ∙ without_subcommand _ _ none is
+pub asked_without_subcommand : (words : List Text) → 0 < length words → fault_of check_or_where words ≡ [] → subcommand_of check_or_where words ≡ None
+    → asked_of words ≡ Err Usage
+asked_without_subcommand words some none is = sym (asked_of_some words some) ∙ without_subcommand _ _ none is
 
-with_cmd : (kind : ErrorKind) → (word_fault_of kind ≡ Usage) ⊎ (word_fault_of kind ≡ Memory)
-with_cmd OutOfMemory = inr refl
-with_cmd _ = inl refl
+-- a fault of `clap` is that of the words, or of memory
+pub usage_or_memory : (kind : ErrorKind) → (word_fault_of kind ≡ Usage) ⊎ (word_fault_of kind ≡ Memory)
+usage_or_memory OutOfMemory = inr refl
+usage_or_memory _ = inl refl
 
 -- the answer to words that `clap` refuses
 refused : (faults : Kinds) (sub : Option (Text × List Row)) (kind : ErrorKind) (r : Result Request WordFault) → (kind ≡ OutOfMemory) ⊎ IsAmong kind faults
-    → IsErrAnd r (λ fault. fault ≡ word_fault_of kind) → Answers r (asked_unless faults sub)
+    → IsErrAnd r (λ fault. fault ≡ word_fault_of kind) → AnswersRequest r (asked_unless faults sub)
 refused faults sub kind (Ok request) why is = absurd is
 refused faults sub kind (Err fault) (inl memory) is = let out : fault ≡ Memory = is ∙ ap word_fault_of memory in rw out tt
 refused [] sub kind (Err fault) (inr among) is = absurd among
-refused (k ∷ ks) sub kind (Err fault) (inr among) is = elim (with_cmd kind) [
+refused (k ∷ ks) sub kind (Err fault) (inr among) is = elim (usage_or_memory kind) [
   | inl usage ↦ let out : fault ≡ Usage = is ∙ usage in rw out refl
   | inr memory ↦ let out : fault ≡ Memory = is ∙ memory in rw out tt
 ]
 
-pub asked_and_refused : (program : ProgramView) (words : List Text) (kind : ErrorKind) (r : Result Request WordFault) → 0 < length words
-    → (kind ≡ OutOfMemory) ⊎ IsAmong kind (fault_of (program_command program) words) → IsErrAnd r (λ fault. fault ≡ word_fault_of kind) → Answers r (asked_of program words)
-asked_and_refused program words kind r some why is = subst (Answers r) (asked_of_some program words some) (refused _ _ kind r why is)
+pub asked_and_refused : (words : List Text) (kind : ErrorKind) (r : Result Request WordFault) → 0 < length words
+    → (kind ≡ OutOfMemory) ⊎ IsAmong kind (fault_of check_or_where words) → IsErrAnd r (λ fault. fault ≡ word_fault_of kind) → AnswersRequest r (asked_of words)
+asked_and_refused words kind r some why is = subst (AnswersRequest r) (asked_of_some words some) (refused _ _ kind r why is)

@@ -1,5 +1,5 @@
 pub mod Number
-pub mod Tool
+pub mod Asked
 pub mod Words
 pub mod Program
 pub mod Text

@@ -36,6 +36,7 @@ where_status_of (Err fault) = fault_status_of fault
 abbrev pub exit_of : Result Found ProgramFault → ℕ
 exit_of (Ok (found.Check outcome)) = check_status_of (Ok outcome)
 exit_of (Ok (found.Where outcome)) = where_status_of (Ok outcome)
+exit_of (Ok found.Shown) = 0
 exit_of (Err (program.Words words.Usage)) = 2
 exit_of (Err (program.Words words.BadNumber)) = 2
 exit_of (Err (program.Words words.Memory)) = 4

@@ -7,7 +7,9 @@ use Rattle.clap.specs.Simple.{on_top}
 use Rattle.clap.specs.declared.error.kind.ErrorKind.{ErrorKind}
 use Rattle.clap.specs.declared.error.kind.ErrorKind.TheVariants.{OutOfMemory}
 use Rattle.macho_program.specs.Number.{word_number}
-use Rattle.macho_program.specs.Tool.{ProgramView}
+use Rattle.macho_report.specs.declared.judge.LayoutRules.{LayoutRules}
+use Rattle.macho_program.specs.Asked.{Asked, asks}
+use Rattle.macho_program.specs.declared.task.Question.TheVariants as question
 use Rattle.macho_program.specs.declared.words.Request.{Request}
 use Rattle.macho_program.specs.declared.words.Request.TheVariants.{Check, Where}
 use Rattle.macho_program.specs.declared.words.WordFault.{WordFault}
@@ -26,88 +28,82 @@ abbrev pub where_command : App
 where_command = with_rule (with_rule (with_rule (new_app (codes "where")) (required (codes "FILE")))
     (required (codes "SLICE"))) (required (codes "ADDRESS"))
 
--- no program's name comes first, a subcommand must be there, and there is no help
+-- a command of which no program's name comes first, and of clap's own there is no help
 abbrev pub bare_command : Text → App
 bare_command name = on_top (λ s. record s {
   no_binary_name = true;
-  subcommand_required = true;
   disable_help_flag = true;
   disable_help_subcommand = true;
 }) (new_app name)
 
--- a program of this name, with `check FILE`
-abbrev pub checking_command : Text → App
-checking_command name = with_subcommand (bare_command name) check_command.top
+-- the command of macho-check: `check FILE` or `where FILE SLICE ADDRESS`, one of which must be there
+abbrev pub check_or_where : App
+check_or_where = with_subcommand (with_subcommand
+    (on_top (λ s. record s { subcommand_required = true }) (bare_command (codes "macho-check")))
+    check_command.top) where_command.top
 
--- a program, with its subcommands
-abbrev pub program_command : ProgramView → App
-program_command p =
-    if p.has_where then with_subcommand (checking_command p.name) where_command.top
-    else checking_command p.name
+-- what is asked for: a verdict of the layout on a file, or what is at an address of a slice of it
+abbrev pub AskedOfCheck : Type 0
+AskedOfCheck = Asked LayoutRules
 
--- what is asked for: a file's verdict, or what is at an address of a slice of it
-pub data Asked : Type 0 where
-  verdict : Text → Asked
-  place : Text → ℕ → ℕ → Asked
+abbrev pub verdict : Text → AskedOfCheck
+verdict file = asks file (question.Verdict (record {}))
 
-abbrev pub asked_by : Request → Asked
-asked_by (Check file) = verdict (string_bytes file)
-asked_by (Where file slice address) = place (string_bytes file) slice address
+abbrev pub place : Text → ℕ → ℕ → AskedOfCheck
+place file slice address = asks file (question.Address slice address)
 
--- the name of the file that is asked about
-abbrev pub file_of : Asked → Text
-file_of (verdict file) = file
-file_of (place file slice address) = file
+abbrev pub requested_by : Request → AskedOfCheck
+requested_by (Check file) = verdict (string_bytes file)
+requested_by (Where file slice address) = place (string_bytes file) slice address
 
 -- what `check` asks for, by the text of FILE
-abbrev pub verdict_asked : Option Text → Result Asked WordFault
+abbrev pub verdict_asked : Option Text → Result AskedOfCheck WordFault
 verdict_asked (Some file) = Ok (verdict file)
 verdict_asked None = Err Usage
 
-abbrev pub check_asked : List Row → Result Asked WordFault
+abbrev pub check_asked : List Row → Result AskedOfCheck WordFault
 check_asked rows = verdict_asked (first_of (codes "FILE") rows)
 
 -- what `where` asks for, by the text of FILE and the numbers of SLICE and ADDRESS
-abbrev pub place_numbered : Text → Option ℕ → Option ℕ → Result Asked WordFault
+abbrev pub place_numbered : Text → Option ℕ → Option ℕ → Result AskedOfCheck WordFault
 place_numbered file (Some slice) (Some address) = Ok (place file slice address)
 place_numbered file _ _ = Err BadNumber
 
 -- the same, by the three texts
-abbrev pub place_asked : Option Text → Option Text → Option Text → Result Asked WordFault
+abbrev pub place_asked : Option Text → Option Text → Option Text → Result AskedOfCheck WordFault
 place_asked (Some file) (Some slice) (Some address) =
     place_numbered file (word_number slice) (word_number address)
 place_asked _ _ _ = Err Usage
 
-abbrev pub where_asked : List Row → Result Asked WordFault
+abbrev pub where_asked : List Row → Result AskedOfCheck WordFault
 where_asked rows = place_asked (first_of (codes "FILE") rows) (first_of (codes "SLICE") rows)
     (first_of (codes "ADDRESS") rows)
 
 -- what a subcommand asks for, by its name and the matches of its arguments
-abbrev pub asked_in : Text → List Row → Result Asked WordFault
+abbrev pub asked_in : Text → List Row → Result AskedOfCheck WordFault
 asked_in name rows = if bytes_eq name (codes "check") then check_asked rows
     else (if bytes_eq name (codes "where") then where_asked rows else Err Usage)
 
-abbrev pub asked_under : Option (Text × List Row) → Result Asked WordFault
+abbrev pub asked_under : Option (Text × List Row) → Result AskedOfCheck WordFault
 asked_under (Some subcommand) = asked_in subcommand.0 subcommand.1
 asked_under None = Err Usage
 
 -- the same, where `clap` finds these faults in the words
-abbrev pub asked_unless : Kinds → Option (Text × List Row) → Result Asked WordFault
+abbrev pub asked_unless : Kinds → Option (Text × List Row) → Result AskedOfCheck WordFault
 asked_unless [] subcommand = asked_under subcommand
 asked_unless (fault ∷ faults) subcommand = Err Usage
 
--- what the words ask of a program, or why they ask for nothing
-abbrev pub asked_of : ProgramView → List Text → Result Asked WordFault
-asked_of program [] = Ok (verdict (codes "-"))
-asked_of program (word ∷ words) =
-    asked_unless (fault_of (program_command program) (word ∷ words))
-    (subcommand_of (program_command program) (word ∷ words))
+-- what the words ask of macho-check, or why they ask for nothing
+abbrev pub asked_of : List Text → Result AskedOfCheck WordFault
+asked_of [] = Ok (verdict (codes "-"))
+asked_of (word ∷ words) =
+    asked_unless (fault_of check_or_where (word ∷ words)) (subcommand_of check_or_where (word ∷ words))
 
 -- the answer is what is asked, or memory ran out
-abbrev pub Answers : Result Request WordFault → Result Asked WordFault → Type 0
-Answers (Ok request) answer = answer ≡ Ok (asked_by request)
-Answers (Err Memory) answer = ⊤
-Answers (Err fault) answer = answer ≡ Err fault
+abbrev pub AnswersRequest : Result Request WordFault → Result AskedOfCheck WordFault → Type 0
+AnswersRequest (Ok request) answer = answer ≡ Ok (requested_by request)
+AnswersRequest (Err Memory) answer = ⊤
+AnswersRequest (Err fault) answer = answer ≡ Err fault
 
 -- the fault for an error of `clap` of this kind
 abbrev pub word_fault_of : ErrorKind → WordFault

@@ -7,6 +7,7 @@ mod number;
 mod process;
 mod program;
 mod status;
+mod task;
 mod tools;
 mod words;
 
@@ -15,5 +16,6 @@ pub use number::read_number;
 pub use process::run_process;
 pub use program::{Found, ProgramFault, run_program, without_memory};
 pub use status::{check_status, exit_code, where_status};
-pub use tools::{Program, Tool};
-pub use words::{Request, WordFault, parse_words, parse_words_of};
+pub use task::{Question, Task};
+pub use tools::{MachoCheck, Tool};
+pub use words::{Request, WordFault, argument, bare_command, parse_words, text_of};

@@ -19,18 +19,19 @@ const OUTPUT_BUFFER: usize = 65_536;
 /// Passes the words, the files and the streams of a process to [`run_program`], and returns the status
 /// with which the process ends. It decides only whether there is memory for the buffer and for the
 /// words.
-pub fn run_process<J: Judge, S: Env + Files + AllocGlobal, R: Read, W: Write + Drop, E: Write>(
-    system: &S,
-    tool: &Tool<J>,
-    stdin: &mut R,
-    stdout: W,
-    stderr: &mut E,
-) -> ExitCode
+pub fn run_process<
+    J: Judge + Drop,
+    T: Tool<J>,
+    S: Env + Files + AllocGlobal,
+    R: Read,
+    W: Write + Drop,
+    E: Write,
+>(system: &S, tool: &T, stdin: &mut R, stdout: W, stderr: &mut E) -> ExitCode
     ensures { exit_status result ≤ 4 }
 {
     let mut errors = FromWrite::new(stderr);
     let Ok(mut stdout) = BufWriter::with_capacity(system.alloc(), OUTPUT_BUFFER, stdout) else {
-        return exit_code(&without_memory(tool.program, &mut errors));
+        return exit_code(&without_memory(tool, &mut errors));
     };
     let ended = run_on_words(
         system,
@@ -45,16 +46,23 @@ pub fn run_process<J: Judge, S: Env + Files + AllocGlobal, R: Read, W: Write + D
 }
 
 // Runs the program over streams of the report, with a buffer for which there was memory.
-fn run_on_words<J: Judge, S: Env + Files + AllocGlobal, R: Read, W: Flush, E: Output>(
+fn run_on_words<
+    J: Judge + Drop,
+    T: Tool<J>,
+    S: Env + Files + AllocGlobal,
+    R: Read,
+    W: Flush,
+    E: Output,
+>(
     system: &S,
-    tool: &Tool<J>,
+    tool: &T,
     stdin: &mut R,
     writer: &mut W,
     errors: &mut E,
 ) -> Result<Found, ProgramFault> {
     let words = match words_of(system) {
         Err(error) if error.kind() == ErrorKind::OutOfMemory => {
-            return without_memory(tool.program, errors);
+            return without_memory(tool, errors);
         }
         words => words.ok(),
     };

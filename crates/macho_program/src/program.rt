@@ -1,19 +1,22 @@
 //! The whole of a program, over any streams and files: from the words and an input to what is found of
 //! it, and the line on standard error.
 
-ghost use Rattle.std.specs.Prelude.{◌≡◌, ⊤, Ok, Err};
+ghost use Rattle.std.specs.Prelude.{◌≡◌, ⊤, ℕ, List, Ok, Err};
 ghost use Rattle.macho_report.specs.declared.outcome.RunFault.TheVariants as fault;
-ghost use Rattle.macho_program.specs.Program.{AnswersWords, EndsRight, IsOfStandardInput, input_of, request_of};
+ghost use Rattle.macho_report.specs.Stream.{WritesUnlessFailed};
+ghost use Rattle.macho_report.specs.Text.{words_line};
+ghost use Rattle.macho_program.specs.Asked.{asks};
+ghost use Rattle.macho_program.specs.Program.{AnswersWords, EndsRight, ShowsRight, IsOfStandardInput, input_of, request_of};
 ghost use Rattle.macho_program.specs.Text.{SaysLine, end_line};
-ghost use Rattle.macho_program.specs.Tool.{program_view};
-ghost use Rattle.macho_program.specs.Words.{asked_by};
 ghost use Rattle.macho_program.specs.declared.program.ProgramFault.TheVariants as ends;
 
 use crate::files::Open;
-use crate::tools::{Program, Tool};
-use crate::words::{Request, STANDARD_INPUT, WordFault, parse_words_of};
+use crate::task::{Question, Task};
+use crate::tools::Tool;
+use crate::words::{BAD_NUMBER, STANDARD_INPUT, WordFault};
 use macho_report::{
     Flush, FromRead, Input, Judge, Outcome, Output, RunFault, WhereOutcome, run_where, run_with,
+    write_all, write_words,
 };
 use std::alloc::Global;
 use std::convert::AsStr;
@@ -22,6 +25,8 @@ use thiserror::Error;
 // How many bytes an input has at most. The line of `RunFault::TooLong` names it.
 const LIMIT: u64 = 1 << 32;
 
+const NO_IMAGE: &str = "no such image";
+
 /// What the program found.
 #[derive(Clone, Copy, Debug, PartialEq, Eq)]
 pub enum Found {
@@ -29,6 +34,8 @@ pub enum Found {
     Check(Outcome),
     /// What is at an address.
     Where(WhereOutcome),
+    /// Nothing: a text of the program's own was asked for.
+    Shown,
 }
 
 /// Why the program wrote no report, or not all of it. The texts are its lines, without the line
@@ -59,22 +66,34 @@ impl From<RunFault> for ProgramFault {
     }
 }
 
-// Finds what is asked for in the input, writes its text, and flushes it. Where there is no such image,
-// there is no text. A failed flush is a failed write.
+// Shows a text of the program's own. A failed flush is a failed write.
+fn show<W: Flush>(text: &str, writer: &mut W) -> Result<Found, ProgramFault>
+    ensures { ShowsRight W.Output W.Flush.own text.now writer.old writer.new result }
+{
+    let Ok(()) = write_all(text.as_bytes(), writer) else {
+        return Err(ProgramFault::Run(RunFault::Write));
+    };
+    match writer.flush() {
+        Ok(()) => Ok(Found::Shown),
+        Err(_) => Err(ProgramFault::Run(RunFault::Write)),
+    }
+}
+
+// Answers the question about the input, writes the text of what is found, and flushes it. Where there
+// is no such image, there is no text. A failed flush is a failed write.
 fn find_in<J: Judge, R: Input, W: Flush>(
     alloc: Global,
-    judge: &J,
-    request: &Request,
+    question: &Question<J>,
     reader: &mut R,
     writer: &mut W,
 ) -> Result<Found, ProgramFault>
-    ensures { EndsRight J.Judge R.Input W.Output W.Flush.own
-        (Ok (asked_by request.now)) (λ _. R.remaining reader.old) (λ _. ⊤)
+    ensures { (name : List ℕ) → EndsRight J.Judge R.Input W.Output W.Flush.own
+        (Ok (asks name question.now)) (λ _. R.remaining reader.old) (λ _. ⊤)
         reader.old reader.new writer.old writer.new result }
 {
-    let found = match request {
-        Request::Check { .. } => Found::Check(run_with(alloc, judge, LIMIT, reader, writer)?),
-        Request::Where { slice, address, .. } => {
+    let found = match question {
+        Question::Verdict(judge) => Found::Check(run_with(alloc, judge, LIMIT, reader, writer)?),
+        Question::Address { slice, address } => {
             Found::Where(run_where(alloc, LIMIT, *slice, *address, reader, writer)?)
         }
     };
@@ -88,46 +107,43 @@ fn find_in<J: Judge, R: Input, W: Flush>(
 }
 
 // What the words ask of a program. The first of them is how it was called.
-fn request_in<'a, S: AsStr>(
+fn task_in<'a, J: Judge, T: Tool<J>, S: AsStr>(
     alloc: Global,
-    program: Program,
+    tool: &T,
     words: Option<&'a [S]>,
-) -> Result<Request, ProgramFault>
-    ensures { AnswersWords result (request_of (program_view program.entry) S.text words.entry) }
+) -> Result<Task<J>, ProgramFault>
+    ensures { AnswersWords result (request_of (T.asked tool.now) S.text words.entry) }
 {
     match words {
-        Some(words) => Ok(parse_words_of(alloc, program, words.get(1..).unwrap_or(&[]))?),
+        Some(words) => Ok(tool.task(alloc, words.get(1..).unwrap_or(&[]))?),
         None => Err(ProgramFault::Run(RunFault::Read)),
     }
 }
 
-// Finds what the words ask for, in the file that they name. Where its name is `-`, that is standard
-// input.
-fn find_asked<J: Judge, S: AsStr, O: Open, R: Input, W: Flush>(
+// Does what the words ask for. Where the name of a file is `-`, that is standard input.
+fn find_asked<J: Judge + Drop, T: Tool<J>, S: AsStr, O: Open, R: Input, W: Flush>(
     alloc: Global,
-    tool: &Tool<J>,
+    tool: &T,
     words: Option<&[S]>,
     files: &O,
     standard: &mut R,
     writer: &mut W,
 ) -> Result<Found, ProgramFault>
     ensures { EndsRight J.Judge R.Input W.Output W.Flush.own
-        (request_of (program_view tool.now.program) S.text words.entry)
+        (request_of (T.asked tool.now) S.text words.entry)
         (input_of (R.remaining standard.old) (O.bytes files.now)) IsOfStandardInput
         standard.old standard.new writer.old writer.new result }
 {
-    let request = request_in(alloc, tool.program, words)?;
-    if request.file() == STANDARD_INPUT {
-        return find_in(alloc, &tool.judge, &request, standard, writer);
+    let task = task_in(alloc, tool, words)?;
+    let (file, question) = match &task {
+        Task::Show(text) => return show(text, writer),
+        Task::Ask { file, question } => (file.as_str(), question),
+    };
+    if file == STANDARD_INPUT {
+        return find_in(alloc, question, standard, writer);
     }
-    match files.open(request.file()) {
-        Ok(mut file) => find_in(
-            alloc,
-            &tool.judge,
-            &request,
-            &mut FromRead::new(&mut file),
-            writer,
-        ),
+    match files.open(file) {
+        Ok(mut file) => find_in(alloc, question, &mut FromRead::new(&mut file), writer),
         Err(_) => Err(ProgramFault::Run(RunFault::Read)),
     }
 }
@@ -137,9 +153,9 @@ fn find_asked<J: Judge, S: AsStr, O: Open, R: Input, W: Flush>(
 ///
 /// `words` are those of the command line, the program's name first, or `None` where the system does
 /// not hand them over. `standard` is standard input, and is read only where the words ask for it.
-pub fn run_program<J: Judge, S: AsStr, O: Open, R: Input, W: Flush, E: Output>(
+pub fn run_program<J: Judge + Drop, T: Tool<J>, S: AsStr, O: Open, R: Input, W: Flush, E: Output>(
     alloc: Global,
-    tool: &Tool<J>,
+    tool: &T,
     words: Option<&[S]>,
     files: &O,
     standard: &mut R,
@@ -148,26 +164,62 @@ pub fn run_program<J: Judge, S: AsStr, O: Open, R: Input, W: Flush, E: Output>(
 ) -> Result<Found, ProgramFault>
     // What is found and written, and when each fault comes.
     ensures ended { EndsRight J.Judge R.Input W.Output W.Flush.own
-        (request_of (program_view tool.now.program) S.text words.entry)
+        (request_of (T.asked tool.now) S.text words.entry)
         (input_of (R.remaining standard.old) (O.bytes files.now)) IsOfStandardInput
         standard.old standard.new writer.old writer.new result }
 
     // Standard error: a line where there is one, and otherwise nothing.
     ensures line { SaysLine E.Output errors.old errors.new
-        (end_line (program_view tool.now.program) result) }
+        (end_line (T.called tool.now) (T.usage_words tool.now) result) }
 {
     let ended = find_asked(alloc, tool, words, files, standard, writer);
-    tool.program.write_end(&ended, errors);
+    write_end(tool.name(), tool.usage(), &ended, errors);
     ended
 }
 
 /// The end of a program that has no memory for its output: the line of that fault goes to `errors`,
 /// whose own faults are ignored.
-pub fn without_memory<E: Output>(program: Program, errors: &mut E) -> Result<Found, ProgramFault>
+pub fn without_memory<J: Judge, T: Tool<J>, E: Output>(
+    tool: &T,
+    errors: &mut E,
+) -> Result<Found, ProgramFault>
     ensures memory { result ≡ Err (ends.Run fault.Memory) }
-    ensures line { SaysLine E.Output errors.old errors.new (end_line (program_view program.entry) result) }
+    ensures line { SaysLine E.Output errors.old errors.new
+        (end_line (T.called tool.now) (T.usage_words tool.now) result) }
 {
     let ended = Err(ProgramFault::Run(RunFault::Memory));
-    program.write_end(&ended, errors);
+    write_end(tool.name(), tool.usage(), &ended, errors);
     ended
+}
+
+// Writes the line for how a program with this name and these words ended, where there is one. Faults of
+// `errors` are ignored.
+fn write_end<E: Output>(
+    name: &str,
+    usage: &str,
+    ended: &Result<Found, ProgramFault>,
+    errors: &mut E,
+)
+    ensures { SaysLine E.Output errors.old errors.new (end_line name.now usage.now ended.now) }
+{
+    match *ended {
+        Ok(Found::Where(WhereOutcome::NoImage)) => write_line(name, ": ", NO_IMAGE, errors),
+        Ok(_) => {}
+        Err(ProgramFault::Words(WordFault::Usage)) => write_line("usage: ", name, usage, errors),
+        Err(ProgramFault::Words(WordFault::BadNumber)) => {
+            write_line(name, ": ", BAD_NUMBER, errors);
+        }
+        Err(ProgramFault::Words(WordFault::Memory)) => {
+            write_line(name, ": ", RunFault::Memory.reason(), errors);
+        }
+        Err(ProgramFault::Run(fault)) => write_line(name, ": ", fault.reason(), errors),
+    }
+}
+
+// Writes a line of three words. Faults of `errors` are ignored.
+fn write_line<E: Output>(first: &str, second: &str, third: &str, errors: &mut E)
+    ensures { WritesUnlessFailed (E.has_failed errors.new) (E.contents errors.old)
+        (E.contents errors.new) (words_line first.now second.now third.now) }
+{
+    let _ = write_words(first, second, third, errors);
 }

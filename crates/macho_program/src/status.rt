@@ -60,6 +60,7 @@ pub fn exit_code(ended: &Result<Found, ProgramFault>) -> ExitCode
     ExitCode::from(match *ended {
         Ok(Found::Check(outcome)) => check_status(&Ok(outcome)),
         Ok(Found::Where(outcome)) => where_status(&Ok(outcome)),
+        Ok(Found::Shown) => DONE,
         Err(ProgramFault::Words(WordFault::Usage | WordFault::BadNumber)) => USAGE,
         Err(ProgramFault::Words(WordFault::Memory)) => OUT_OF_MEMORY,
         Err(ProgramFault::Run(fault)) => fault_status(fault),

@@ -3,15 +3,15 @@
 ghost use Rattle.std.specs.Prelude.{◌≡◌, map, option_map, IfOk, false};
 ghost use Rattle.clap.specs.Words.{app_of, first_of, found_of, kind_of, rows_of, rule_of};
 ghost use Rattle.clap.specs.declared.builder.command.Command.TheViews.{out-Command as fields_of};
-ghost use Rattle.macho_program.specs.Tool.{macho_check, program_view};
-ghost use Rattle.macho_program.specs.Words.{Answers, asked_by, asked_in, asked_of, bare_command, check_asked, check_command, checking_command, file_of, program_command, required, where_asked, where_command, word_fault_of};
+ghost use Rattle.macho_program.specs.Asked.{asked_by};
+ghost use Rattle.macho_program.specs.Words.{AnswersRequest, asked_in, asked_of, bare_command, check_asked, check_command, check_or_where, requested_by, required, where_asked, where_command, word_fault_of};
 ghost use Rattle.macho_program.specs.declared.words.WordFault.TheVariants.{Memory};
 
 use crate::number::read_number;
-use crate::tools::Program;
+use crate::task::{Question, Task};
 use clap::error::ErrorKind;
 use clap::{Arg, ArgMatches, Command};
-use macho_report::RunFault;
+use macho_report::{LayoutRules, RunFault};
 use std::alloc::{AllocError, Global};
 use std::convert::AsStr;
 use thiserror::Error;
@@ -34,7 +34,7 @@ pub enum Request {
     },
 }
 
-// What the words may be, after the name of a program that takes both subcommands.
+// What the words of `macho-check` may be, after its name.
 pub(crate) const CHECK_OR_WHERE: &str = " check FILE | where FILE SLICE ADDRESS";
 
 pub(crate) const BAD_NUMBER: &str = "bad number";
@@ -72,71 +72,61 @@ impl From<clap::Error> for WordFault {
     }
 }
 
-impl Request {
-    /// The name of the file that is asked about.
-    pub fn file(&self) -> &str
-        ensures { result.now ≡ file_of (asked_by self.now) }
-    {
-        match self {
-            Request::Check { file } | Request::Where { file, .. } => file.as_str(),
+impl From<Request> for Task<LayoutRules> {
+    ghost from_gives = { λ request task. asked_by task ≡ requested_by request };
+
+    fn from(request: Request) -> Task<LayoutRules> {
+        match request {
+            Request::Check { file } => Task::Ask {
+                file,
+                question: Question::Verdict(LayoutRules),
+            },
+            Request::Where {
+                file,
+                slice,
+                address,
+            } => Task::Ask {
+                file,
+                question: Question::Address { slice, address },
+            },
         }
     }
 }
 
-/// Reads the words after the name of `macho-check`, as [`parse_words_of`] does.
+/// Reads the words after the name of `macho-check`. No words ask for a check of standard input.
+/// `BadNumber` is answered only where the words are otherwise those of the program.
 pub fn parse_words<'a, S: AsStr>(alloc: Global, words: &'a [S]) -> Result<Request, WordFault>
-    ensures { Answers result (asked_of macho_check (map S.text words.now)) }
-{
-    parse_words_of(alloc, Program::macho_check(), words)
-}
-
-/// Reads the words after the name of a program. No words ask for a check of standard input. `BadNumber`
-/// is answered only where the words are otherwise those of the program.
-pub fn parse_words_of<'a, S: AsStr>(
-    alloc: Global,
-    program: Program,
-    words: &'a [S],
-) -> Result<Request, WordFault>
-    ensures { Answers result (asked_of (program_view program.entry) (map S.text words.now)) }
+    ensures { AnswersRequest result (asked_of (map S.text words.now)) }
 {
     if words.is_empty() {
         let file = String::from_str(alloc, STANDARD_INPUT)?;
         return Ok(Request::Check { file });
     }
-    let matches = program_command(alloc, program)?.try_get_matches_from(words)?;
+    let matches = check_or_where(alloc)?.try_get_matches_from(words)?;
     let Some((name, arguments)) = matches.subcommand() else {
         return Err(WordFault::Usage);
     };
     request_in(alloc, name, arguments)
 }
 
-// The command of a program, with its subcommands.
-fn program_command<'a>(alloc: Global, program: Program<'a>) -> Result<Command<'a>, AllocError>
-    ensures { IfOk result (λ command. app_of command ≡ program_command (program_view program.entry)) }
-{
-    let command = checking_command(alloc, program.name)?;
-    if !program.has_where {
-        return Ok(command);
-    }
-    let place = where_command(alloc)?;
-    command.subcommand(place)
-}
-
-// `check FILE`, of a program of this name.
-fn checking_command<'a>(alloc: Global, name: &'a str) -> Result<Command<'a>, AllocError>
-    ensures { IfOk result (λ command. app_of command ≡ checking_command name.entry.now) }
+// The command of `macho-check`: one of its subcommands must be there.
+fn check_or_where<'a>(alloc: Global) -> Result<Command<'a>, AllocError>
+    ensures { IfOk result (λ command. app_of command ≡ check_or_where) }
 {
     let check = check_command(alloc)?;
-    bare_command(alloc, name).subcommand(check)
+    let place = where_command(alloc)?;
+    bare_command(alloc, "macho-check")
+        .subcommand_required(true)
+        .subcommand(check)?
+        .subcommand(place)
 }
 
-// The command without its subcommands. Of clap's own it takes none.
-fn bare_command<'a>(alloc: Global, name: &'a str) -> Command<'a>
+/// A command of which no program's name comes first. Of clap's own it takes no help.
+pub fn bare_command<'a>(alloc: Global, name: &'a str) -> Command<'a>
     ensures { app_of result ≡ bare_command name.entry.now }
 {
     Command::new(alloc, name)
         .no_binary_name(true)
-        .subcommand_required(true)
         .disable_help_flag(true)
         .disable_help_subcommand(true)
 }
@@ -160,8 +150,8 @@ fn where_command<'a>(alloc: Global) -> Result<Command<'a>, AllocError>
         .arg(argument(alloc, "ADDRESS"))
 }
 
-// A positional argument that has to be there, taken as text.
-fn argument<'a>(alloc: Global, name: &'a str) -> Arg<'a>
+/// A positional argument that has to be there, taken as text.
+pub fn argument<'a>(alloc: Global, name: &'a str) -> Arg<'a>
     ensures rule { rule_of result ≡ required name.entry.now }
     ensures local { result.global ≡ false }
 {
@@ -170,7 +160,7 @@ fn argument<'a>(alloc: Global, name: &'a str) -> Arg<'a>
 
 // The request of a subcommand of this name, with these arguments.
 fn request_in(alloc: Global, name: &str, arguments: &ArgMatches<'_>) -> Result<Request, WordFault>
-    ensures { Answers result (asked_in name.now (rows_of (found_of arguments.now))) }
+    ensures { AnswersRequest result (asked_in name.now (rows_of (found_of arguments.now))) }
 {
     match name {
         "check" => check_in(alloc, arguments),
@@ -179,8 +169,8 @@ fn request_in(alloc: Global, name: &str, arguments: &ArgMatches<'_>) -> Result<R
     }
 }
 
-// The text of an argument of this name.
-fn text_of<'a>(arguments: &ArgMatches<'a>, name: &str) -> Option<&'a str>
+/// The text of an argument of this name.
+pub fn text_of<'a>(arguments: &ArgMatches<'a>, name: &str) -> Option<&'a str>
     ensures { option_map (λ text. text.now) result
         ≡ first_of name.now (rows_of (found_of arguments.now)) }
 {
@@ -189,7 +179,7 @@ fn text_of<'a>(arguments: &ArgMatches<'a>, name: &str) -> Option<&'a str>
 
 // The request of `check`.
 fn check_in(alloc: Global, arguments: &ArgMatches<'_>) -> Result<Request, WordFault>
-    ensures { Answers result (check_asked (rows_of (found_of arguments.now))) }
+    ensures { AnswersRequest result (check_asked (rows_of (found_of arguments.now))) }
 {
     let Some(file) = text_of(arguments, "FILE") else {
         return Err(WordFault::Usage);
@@ -200,7 +190,7 @@ fn check_in(alloc: Global, arguments: &ArgMatches<'_>) -> Result<Request, WordFa
 
 // The request of `where`.
 fn where_in(alloc: Global, arguments: &ArgMatches<'_>) -> Result<Request, WordFault>
-    ensures { Answers result (where_asked (rows_of (found_of arguments.now))) }
+    ensures { AnswersRequest result (where_asked (rows_of (found_of arguments.now))) }
 {
     let (Some(file), Some(slice), Some(address)) = (
         text_of(arguments, "FILE"),

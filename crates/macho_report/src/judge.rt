@@ -17,24 +17,24 @@ use std::alloc::Global;
 /// Decides whether a file is accepted, and writes what the report says of an image after its layout.
 pub trait Judge {
     /// Whether a file is accepted.
-    ghost accepts: { List ℕ → Type 0 };
+    ghost accepts: { Self → List ℕ → Type 0 };
     /// Whether a file is refused for this break.
-    ghost refuses: { List ℕ → Break → Type 0 };
+    ghost refuses: { Self → List ℕ → Break → Type 0 };
     /// What the report of an accepted file says of an image, given its bytes, after the lines of its
     /// layout: most judges add nothing.
-    ghost says: { List ℕ → List ℕ } = { λ _. [] };
+    ghost says: { Self → List ℕ → List ℕ } = { λ _ _. [] };
 
     /// Decides whether the file is accepted.
     fn judge<'a>(&self, alloc: Global, file: &'a [u8]) -> Result<Verified<'a>, Refusal>
-        ensures accepted { OnOk result (accepts file.now) }
+        ensures accepted { OnOk result (accepts self.now file.now) }
         ensures file { IfOk result (λ verified. verified ≡ file.now) }
-        ensures refused { IfErr result (IsRefusalBy refuses file.now) };
+        ensures refused { IfErr result (IsRefusalBy (refuses self.now) file.now) };
 
     /// Writes what the report says of an image, which breaks no rule of the layout, after the lines of its
     /// layout.
     fn write_more<W: Output>(&self, image: &Image, writer: &mut W) -> Result<(), WriteFault>
         requires { NothingBreaks (BreaksImage image.now None) }
-        ensures { PutsText W.Output writer.old writer.new result (says image.now) };
+        ensures { PutsText W.Output writer.old writer.new result (says self.now image.now) };
 }
 
 /// Accepts the files that break no rule of the layout, as [`verify`] decides.
@@ -42,9 +42,9 @@ pub trait Judge {
 pub struct LayoutRules;
 
 impl Judge for LayoutRules {
-    ghost accepts = { IsUnbroken };
+    ghost accepts = { λ _. IsUnbroken };
 
-    ghost refuses = { IsFirstBroken };
+    ghost refuses = { λ _. IsFirstBroken };
 
     fn judge<'a>(&self, alloc: Global, file: &'a [u8]) -> Result<Verified<'a>, Refusal> {
         verify(alloc, file)

@@ -42,7 +42,7 @@ pub(crate) fn write_layout_with<J: Judge, W: Output>(
     verified: &Verified,
     writer: &mut W,
 ) -> Result<(), WriteFault>
-    ensures text { PutsText W.Output writer.old writer.new result (layout_with J.says verified.now) }
+    ensures text { PutsText W.Output writer.old writer.new result (layout_with (J.says judge.now) verified.now) }
     ensures stays_failed { IsTrue (W.has_failed writer.old) → IsErr result }
 {
     write_count(verified.slice_count(), writer)?;
@@ -56,7 +56,7 @@ fn write_slices<J: Judge, W: Output>(
     writer: &mut W,
 ) -> Result<(), WriteFault>
     ensures { PutsText W.Output writer.old writer.new result
-        (joined (map (slice_text J.says verified.now) (enumerate_from 0 (slices_of verified.now)))) }
+        (joined (map (slice_text (J.says judge.now) verified.now) (enumerate_from 0 (slices_of verified.now)))) }
 {
     for index in 0..verified.slice_count() {
         write_slice_lines(judge, verified, index, writer)?;
@@ -73,7 +73,7 @@ fn write_slice_lines<J: Judge, W: Output>(
 ) -> Result<(), WriteFault>
     requires { index < length (slices_of verified.now) }
     ensures { IsSomeAnd (slice_get (slices_of verified.now) index) (λ slice.
-        PutsText W.Output writer.old writer.new result (slice_text J.says verified.now (index, slice))) }
+        PutsText W.Output writer.old writer.new result (slice_text (J.says judge.now) verified.now (index, slice))) }
 {
     // The index is below the number of slices.
     let slice = verified.slice(index).unwrap();
@@ -93,7 +93,7 @@ fn write_image_slice<J: Judge, W: Output>(
 ) -> Result<(), WriteFault>
     requires { NothingBreaks (BreaksImage image.now None) }
     ensures { PutsText W.Output writer.old writer.new result
-        (image_slice_text J.says image.now index (slice_of slice.now)) }
+        (image_slice_text (J.says judge.now) image.now index (slice_of slice.now)) }
 {
     write_slice(
         index,

@@ -105,7 +105,7 @@ pub fn run<R: Input, W: Output>(
     reader: &mut R,
     writer: &mut W,
 ) -> Result<Outcome, RunFault>
-    ensures { RunsRight ⟦<LayoutRules as Judge>⟧ R.Input W.Output limit reader.old reader.new
+    ensures { RunsRight ⟦<LayoutRules as Judge>⟧ R.Input W.Output (record {}) limit reader.old reader.new
         writer.old writer.new result }
 {
     run_with(alloc, &LayoutRules, limit, reader, writer)
@@ -120,7 +120,7 @@ pub fn run_with<J: Judge, R: Input, W: Output>(
     reader: &mut R,
     writer: &mut W,
 ) -> Result<Outcome, RunFault>
-    ensures { RunsRight J.Judge R.Input W.Output limit reader.old reader.new
+    ensures { RunsRight J.Judge R.Input W.Output judge.now limit reader.old reader.new
         writer.old writer.new result }
 {
     let file = read_all(alloc, limit, reader)?;
@@ -135,10 +135,10 @@ fn write_verdict<J: Judge, W: Output>(
     writer: &mut W,
 ) -> Result<Outcome, RunFault>
     ensures verdict { IfOk result (λ outcome. (text : List ℕ)
-        × IsReport J.Judge file.now outcome text
+        × IsReport J.Judge judge.now file.now outcome text
         × Wrote (W.contents writer.old) (W.contents writer.new) text) }
     ensures fails { FailsRight result (W.has_failed writer.new)
-        ((outcome : Outcome) × (text : List ℕ) × IsReport J.Judge file.now outcome text
+        ((outcome : Outcome) × (text : List ℕ) × IsReport J.Judge judge.now file.now outcome text
         × WrotePrefix (W.contents writer.old) (W.contents writer.new) text)
         (writer.new ≡ writer.old) }
 {
@@ -158,11 +158,11 @@ pub(crate) fn accept<'a, J: Judge, W: Output>(
     writer: &mut W,
 ) -> Result<Option<Verified<'a>>, RunFault>
     ensures accepted { IfOk result (λ answer. IfSome answer (λ verified.
-        (verified ≡ file.now) × J.accepts file.now × (writer.new ≡ writer.old))) }
-    ensures refused { IfOk result (λ answer. IfNone answer ((b : Break) × J.refuses file.now b
+        (verified ≡ file.now) × J.accepts judge.now file.now × (writer.new ≡ writer.old))) }
+    ensures refused { IfOk result (λ answer. IfNone answer ((b : Break) × J.refuses judge.now file.now b
         × Wrote (W.contents writer.old) (W.contents writer.new) (break_text b))) }
     ensures fails { FailsRight result (W.has_failed writer.new)
-        ((b : Break) × J.refuses file.now b
+        ((b : Break) × J.refuses judge.now file.now b
         × WrotePrefix (W.contents writer.old) (W.contents writer.new) (break_text b))
         (writer.new ≡ writer.old) }
 {

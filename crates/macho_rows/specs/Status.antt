@@ -23,3 +23,7 @@ KESVUOT_UNREAD = 4
 -- the address is mapped, but to no byte of the file
 abbrev pub KESVUOT_ZERO : ℕ
 KESVUOT_ZERO = 5
+
+-- no profile has the number
+abbrev pub KESVUOT_UNKNOWN_PROFILE : ℕ
+KESVUOT_UNKNOWN_PROFILE = 6

@@ -12,3 +12,5 @@ pub const NONE: u32 = 3;
 pub const UNREAD: u32 = 4;
 /// An address at which there is a zero that is not a byte of the file.
 pub const ZERO: u32 = 5;
+/// No profile has the number that was passed.
+pub const UNKNOWN_PROFILE: u32 = 6;

@@ -34,7 +34,7 @@ func judge(path string) (*kesvuot.File, error) {
 	if err != nil {
 		return nil, err
 	}
-	file, err := kesvuot.Verify(bytes)
+	file, err := kesvuot.Verify(bytes, kesvuot.Layout)
 	if err != nil {
 		return nil, fmt.Errorf("%s: %w", path, err)
 	}

@@ -11,7 +11,7 @@ mod threads;
 use std::path::Path;
 use std::{env, fs, thread};
 
-use kesvuot::{Error, PartKind, Rule, Verified, VerifiedBuf};
+use kesvuot::{Error, PartKind, Profile, Rule, VerifiedBuf};
 
 /// What is wanted of each file of a list, and the file.
 fn trials(list: &str) -> Vec<(String, String)> {
@@ -34,14 +34,14 @@ impl Drop for At<'_> {
     }
 }
 
-/// Compares the verdicts on the files of a list, and all that is read of those that are accepted.
-fn judge_all(list: &str, verify: fn(&[u8]) -> Result<Verified<'_>, Error>) {
-    let trials = trials(list);
+/// Compares the verdicts by a profile on the files of its list, and all that is read of the accepted files.
+fn judge_all(profile: Profile) {
+    let trials = trials(&format!("{profile}-vectors"));
     let mut accepted = 0;
     for (wanted, path) in &trials {
         let _at = At(path);
         let file = fs::read(path).unwrap();
-        match verify(&file) {
+        match kesvuot::verify(&file, profile) {
             Ok(verified) => {
                 assert_eq!(wanted, "accepted");
                 verified.images().for_each(|image| plain::compare(&image));
@@ -49,16 +49,18 @@ fn judge_all(list: &str, verify: fn(&[u8]) -> Result<Verified<'_>, Error>) {
             }
             Err(error) => {
                 assert_eq!(wanted, &error.to_string());
-                explain(&file, error);
+                explain(&file, error, profile);
             }
         }
     }
     assert!(0 < accepted && accepted < trials.len());
 }
 
-/// A refusal is explained, by a structure that has the place and lies in the file.
-fn explain(file: &[u8], error: Error) {
+/// A refusal by a profile is explained, by a structure that has the place and lies in the file. The rule belongs to
+/// the profile, or to one before it.
+fn explain(file: &[u8], error: Error, profile: Profile) {
     if let Error::Refused { rule, place } = error {
+        assert!(rule.profile().unwrap() <= profile);
         let at = kesvuot::explain(file, rule, place).unwrap().at.unwrap();
         assert!((at.start..=at.start + at.size).contains(&place));
         assert!(at.start + at.size <= file.len() as u64);
@@ -101,7 +103,7 @@ fn explanations() {
 fn compare_layout(path: &str, wanted: &str) {
     let _at = At(path);
     let file = fs::read(path).unwrap();
-    let verified = kesvuot::verify(&file).unwrap();
+    let verified = kesvuot::verify(&file, Profile::Layout).unwrap();
     let layout = verified.layout().unwrap();
     assert_eq!(layout, fs::read_to_string(wanted).unwrap());
     verified.images().for_each(|image| plain::compare(&image));
@@ -133,14 +135,14 @@ const WORDS: [u32; 72] = [
 #[test]
 fn different_fields() {
     let file: Vec<u8> = WORDS.iter().flat_map(|word| word.to_le_bytes()).collect();
-    let verified = kesvuot::verify(&file).unwrap();
+    let verified = kesvuot::verify(&file, Profile::Layout).unwrap();
     plain::compare(&verified.image(0).unwrap());
 }
 
 #[test]
 fn slices() {
     let file = fs::read(path_of_real("library")).unwrap();
-    let verified = kesvuot::verify(&file).unwrap();
+    let verified = kesvuot::verify(&file, Profile::Layout).unwrap();
     assert_eq!((verified.bytes(), verified.slices().len()), (&file[..], 2));
     let mut slices = verified.slices();
     let second = slices.nth(1).unwrap();
@@ -163,7 +165,7 @@ fn slices() {
 #[test]
 fn a_file_that_owns_its_bytes() {
     let bytes = fs::read(path_of_real("library")).unwrap();
-    let file = VerifiedBuf::verify(bytes.clone()).unwrap();
+    let file = VerifiedBuf::verify(bytes.clone(), Profile::Layout).unwrap();
     assert_eq!(file.as_verified().bytes(), bytes);
     assert_eq!(file.as_verified().slice_count(), 2);
     file.as_verified()
@@ -173,41 +175,43 @@ fn a_file_that_owns_its_bytes() {
     let moved = Box::new(file);
     let image = moved.as_verified().image(1).unwrap();
     assert_eq!(image.place_of(image.bytes()), Some(4240));
-    let copy = VerifiedBuf::from(kesvuot::verify(&bytes).unwrap());
+    let copy = VerifiedBuf::from(kesvuot::verify(&bytes, Profile::Layout).unwrap());
     assert_eq!(
         format!("{copy:?}"),
         "VerifiedBuf { size: 21008, slice_count: 2 }"
     );
     assert_eq!(moved.into_bytes(), copy.into_bytes());
+}
 
-    let cut = &fs::read(path_of_real("program")).unwrap()[..12000];
-    let (rule, place) = (Rule::SegmentFile, 0x198);
-    let refused = VerifiedBuf::verify(cut).unwrap_err();
-    assert_eq!(refused, Error::Refused { rule, place });
-    let longer = [&bytes[..], b"more"].concat();
-    assert!(VerifiedBuf::verify(&longer[..]).is_ok());
-    let (rule, place) = (Rule::FatStrayByte, 21008);
-    let refused = VerifiedBuf::verify_strictly(longer).unwrap_err();
-    assert_eq!(refused, Error::Refused { rule, place });
+/// The profile of the rule is the first that refuses these bytes, and the profiles after it refuse them alike.
+fn refuse(bytes: &[u8], rule: Rule, place: u64) {
+    for &profile in Profile::ALL {
+        let answer = VerifiedBuf::verify(bytes, profile);
+        if Some(profile) < rule.profile() {
+            assert!(answer.is_ok());
+        } else {
+            assert_eq!(answer.unwrap_err(), Error::Refused { rule, place });
+        }
+    }
+}
 
+#[test]
+fn a_file_for_each_profile() {
+    let [program, library] =
+        ["program", "library"].map(|name| fs::read(path_of_real(name)).unwrap());
+    refuse(&program[..12000], Rule::SegmentFile, 0x198);
+    refuse(&[&library[..], b"more"].concat(), Rule::FatStrayByte, 21008);
     // No opcode of the bind stream, which begins at 0x3008, is 0xd0.
-    let mut changed = fs::read(path_of_real("program")).unwrap();
-    assert!(VerifiedBuf::verify_linked(&changed[..]).is_ok());
+    let mut changed = program.clone();
     changed[0x3008] = 0xd0;
-    assert!(VerifiedBuf::verify_strictly(&changed[..]).is_ok());
-    let (rule, place) = (Rule::BindOpcode, 0x3008);
-    let refused = VerifiedBuf::verify_linked(changed).unwrap_err();
-    assert_eq!(refused, Error::Refused { rule, place });
-
-    let (rule, place) = (Rule::SignatureMissing, 0);
-    let refused = VerifiedBuf::verify_sealed(fs::read(path_of_real("program")).unwrap());
-    assert_eq!(refused.unwrap_err(), Error::Refused { rule, place });
+    refuse(&changed, Rule::BindOpcode, 0x3008);
+    refuse(&program, Rule::SignatureMissing, 0);
 }
 
 #[test]
 fn what_debug_shows() {
     let file = fs::read(path_of_real("program")).unwrap();
-    let verified = kesvuot::verify(&file).unwrap();
+    let verified = kesvuot::verify(&file, Profile::Layout).unwrap();
     let image = verified.image(0).unwrap();
     // A part shows how long its bytes are, and not what they are.
     let shown = [
@@ -228,25 +232,9 @@ fn what_debug_shows() {
 #[test]
 #[ignore = "it needs KESVUOT_TRIALS"]
 fn vectors() {
-    judge_all("vectors", kesvuot::verify);
-}
-
-#[test]
-#[ignore = "it needs KESVUOT_TRIALS"]
-fn strict_vectors() {
-    judge_all("strict-vectors", kesvuot::verify_strictly);
-}
-
-#[test]
-#[ignore = "it needs KESVUOT_TRIALS"]
-fn linked_vectors() {
-    judge_all("linked-vectors", kesvuot::verify_linked);
-}
-
-#[test]
-#[ignore = "it needs KESVUOT_TRIALS"]
-fn sealed_vectors() {
-    judge_all("sealed-vectors", kesvuot::verify_sealed);
+    for &profile in Profile::ALL {
+        judge_all(profile);
+    }
 }
 
 #[test]

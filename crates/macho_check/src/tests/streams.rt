@@ -6,9 +6,9 @@ use super::same;
 use crate::doubles::slow::SlowReader;
 use crate::doubles::{CountingReader, CountingWriter, Fault};
 use crate::notation::{BARE_HEADER, BARE_LAYOUT};
-use macho_program::{Open, Program, Tool, exit_code, run_program};
+use macho_program::{MachoCheck, Open, exit_code, run_program};
 use macho_report::transfer::{ReadFault, read_all};
-use macho_report::{Failed, Flush, FromRead, FromWrite, Input, LayoutRules, Output};
+use macho_report::{Failed, Flush, FromRead, FromWrite, Input, Output};
 use std::alloc::{AllocError, Global};
 use std::process::{Abort, ExitCode};
 
@@ -245,13 +245,9 @@ fn check_end(
     let mut reader = CountingReader::new(BARE_HEADER, bad_read);
     let mut writer = CountingWriter::new(Vec::new(rt.alloc()), bad_write, Fault::Error);
     let mut errors = CountingWriter::new(Vec::new(rt.alloc()), 0, Fault::Error);
-    let tool = Tool {
-        program: Program::macho_check(),
-        judge: LayoutRules,
-    };
     let ended = run_program(
         rt.alloc(),
-        &tool,
+        &MachoCheck,
         words,
         &NoFiles,
         &mut FromRead::new(&mut reader),

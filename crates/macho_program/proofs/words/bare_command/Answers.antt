@@ -3,12 +3,9 @@ use Rattle.clap.specs.Words.{Shape, app_of, new_app}
 use Rattle.clap.specs.Simple.{app_of_fields, on_top}
 use Rattle.macho_program.proofs.words.bare_command.Goals as goal
 
--- the four settings of the command above
+-- the three settings of the command
 abbrev unnamed : Shape → Shape
 unnamed s = record s { no_binary_name = true }
-
-abbrev with_one : Shape → Shape
-with_one s = record s { subcommand_required = true }
 
 abbrev flagless : Shape → Shape
 flagless s = record s { disable_help_flag = true }
@@ -19,6 +16,5 @@ helpless s = record s { disable_help_subcommand = true }
 pub returns : goal.returns
 returns c =
     let unnamed_is : app_of c.no_binary_name.result ≡ on_top unnamed (new_app _) = ap app_of_fields c.no_binary_name.ensures ∙ ap (on_top unnamed) c.new.ensures.app in
-    let with_one_is = ap app_of_fields c.subcommand_required.ensures ∙ ap (on_top with_one) unnamed_is in
-    let flagless_is = ap app_of_fields c.disable_help_flag.ensures ∙ ap (on_top flagless) with_one_is in
+    let flagless_is = ap app_of_fields c.disable_help_flag.ensures ∙ ap (on_top flagless) unnamed_is in
     ap app_of_fields c.disable_help_subcommand.ensures ∙ ap (on_top helpless) flagless_is

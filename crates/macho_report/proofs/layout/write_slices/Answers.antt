@@ -11,14 +11,14 @@ loop-index-init g c = items_begin refl
 pub loop-index-preserved : goal.loop-index-preserved
 loop-index-preserved g c =
     let (slice, is, put) = found _ _ c.in_ok-write_slice_lines.ensures in
-    item_put (slice_text g.J.Judge.says c.args.verified.now) (indexed c.loop-index.index (slices_of c.args.verified.now) slice is) c.loop-index.invariant put
+    item_put (slice_text (g.J.Judge.says c.args.judge.now) c.args.verified.now) (indexed c.loop-index.index (slices_of c.args.verified.now) slice is) c.loop-index.invariant put
 
 pub returns-in_err-write_slice_lines : goal.returns-in_err-write_slice_lines
 returns-in_err-write_slice_lines g c =
     let (slice, is, put) = found _ _ c.in_err-write_slice_lines.ensures in
-    item_fails (slice_text g.J.Judge.says c.args.verified.now) c.from_residual.ensures.0 (indexed c.loop-index.index (slices_of c.args.verified.now) slice is) c.loop-index.invariant put
+    item_fails (slice_text (g.J.Judge.says c.args.judge.now) c.args.verified.now) c.from_residual.ensures.0 (indexed c.loop-index.index (slices_of c.args.verified.now) slice is) c.loop-index.invariant put
 
 pub returns : goal.returns
 returns g c =
     let past : length (slices_of c.args.verified.now) ≤ c.loop-index.index = omega (arith, c.slice_count-index-end.ensures) in
-    items_end (slice_text g.J.Judge.says c.args.verified.now) (all_passed 0 c.loop-index.index (slices_of c.args.verified.now) past) c.loop-index.invariant
+    items_end (slice_text (g.J.Judge.says c.args.judge.now) c.args.verified.now) (all_passed 0 c.loop-index.index (slices_of c.args.verified.now) past) c.loop-index.invariant

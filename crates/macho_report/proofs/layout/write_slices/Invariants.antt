@@ -9,5 +9,5 @@ use Rattle.macho_report.proofs.layout.write_slices.Given as goal
 -- the lines of the slices that are left are still to be written
 abbrev pub invariant-loop-index : goal.invariant-loop-index
 invariant-loop-index g l = PutsPart g.W.Output l.initial.writer l.writer
-    (joined (map (slice_text g.J.Judge.says l.verified) (enumerate_from 0 (slices_of l.verified))))
-    (map (slice_text g.J.Judge.says l.verified) (drop l.index (enumerate_from 0 (slices_of l.verified))))
+    (joined (map (slice_text (g.J.Judge.says l.judge) l.verified) (enumerate_from 0 (slices_of l.verified))))
+    (map (slice_text (g.J.Judge.says l.judge) l.verified) (drop l.index (enumerate_from 0 (slices_of l.verified))))

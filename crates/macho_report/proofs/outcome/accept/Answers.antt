@@ -13,13 +13,13 @@ pub returns-in_err-write_break-in-Err-Broken : goal.returns-in_err-write_break-i
 returns-in_err-write_break-in-Err-Broken g c = rw (at_fault _ _ c.from_residual.ensures.1) record {
   accepted = tt;
   refused = tt;
-  fails = fails_to_write _ _ _ c.in_err-write_break-in-Err-Broken.ensures.text.failed (_, refused_for g.J.Judge.refuses c.args.file.now _ _ c.in-Err-Broken.field-0-is c.in-Err-Broken.ensures.refused, c.in_err-write_break-in-Err-Broken.ensures.text.bytes);
+  fails = fails_to_write _ _ _ c.in_err-write_break-in-Err-Broken.ensures.text.failed (_, refused_for (g.J.Judge.refuses c.args.judge.now) c.args.file.now _ _ c.in-Err-Broken.field-0-is c.in-Err-Broken.ensures.refused, c.in_err-write_break-in-Err-Broken.ensures.text.bytes);
 }
 
 pub returns-in_ok-write_break-in-Err-Broken : goal.returns-in_ok-write_break-in-Err-Broken
 returns-in_ok-write_break-in-Err-Broken g c = record {
   accepted = tt;
-  refused = (_, refused_for g.J.Judge.refuses c.args.file.now _ _ c.in-Err-Broken.field-0-is c.in-Err-Broken.ensures.refused, c.in_ok-write_break-in-Err-Broken.ensures.text.bytes);
+  refused = (_, refused_for (g.J.Judge.refuses c.args.judge.now) c.args.file.now _ _ c.in-Err-Broken.field-0-is c.in-Err-Broken.ensures.refused, c.in_ok-write_break-in-Err-Broken.ensures.text.bytes);
   fails = fails_not _ _ _ _;
 }
 

@@ -1,2 +1,0 @@
-pub mod Judge
-pub mod Cdhashes

@@ -1,0 +1,3 @@
+pub mod Cdhashes
+pub mod Judge
+pub mod Words

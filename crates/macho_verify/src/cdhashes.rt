@@ -1,0 +1,35 @@
+//! The lines of code directories.
+
+ghost use Rattle.std.specs.Prelude.{◌≡◌, None};
+ghost use Rattle.macho_fields.specs.Layers.{NothingBreaks};
+ghost use Rattle.macho_fields.specs.Rules.{BreaksImage};
+ghost use Rattle.macho_report.specs.Writer.{PutsText};
+ghost use Rattle.macho_verify.specs.Cdhashes.{cdhashes_text, type_word};
+
+use macho_image::Image;
+use macho_report::{Output, WriteFault, write_cdhash};
+use macho_sealed::{Cdhashes, Digest};
+
+/// Writes a line for each code directory of an image that breaks no rule of the layout, in the order of the
+/// index of its signature.
+pub fn write_cdhashes<W: Output>(image: &Image, writer: &mut W) -> Result<(), WriteFault>
+    requires { NothingBreaks (BreaksImage image.now None) }
+    ensures { PutsText W.Output writer.old writer.new result (cdhashes_text image.now) }
+{
+    for digest in Cdhashes::of(image) {
+        write_cdhash(type_word(&digest), &digest.cdhash(), writer)?;
+    }
+    Ok(())
+}
+
+// The word of a type of hashes.
+fn type_word(digest: &Digest) -> &'static str
+    ensures { result.now ≡ type_word digest.now }
+{
+    match digest {
+        Digest::Sha1(_) => "sha1",
+        Digest::Sha256(_) => "sha256",
+        Digest::Sha256Truncated(_) => "sha256-truncated",
+        Digest::Sha384(_) => "sha384",
+    }
+}
