@@ -163,6 +163,7 @@ impl<'a> Segment<'a> {
 impl Command<'_> {
     /// The command as a segment of the image that it was read from, or `None` if it is another command.
     /// In other bytes it is a segment only where its sections lie inside them.
+    #[inline(always)]
     pub fn segment<'i>(&self, image: Bytes<'i>) -> Option<Segment<'i>>
         ensures segment { IfSome result (λ segment.
             segment ≡ segment_at (bytes_of image.entry) self.now.place) }
@@ -180,6 +181,7 @@ impl Command<'_> {
 }
 
 // Whether the structure of a segment at `place` and its sections lie inside the image.
+#[inline(never)]
 fn holds_segment(image: Bytes, place: u64) -> bool
     ensures { IsTrue result ↔ HoldsSegment (bytes_of image.entry) place }
 {
