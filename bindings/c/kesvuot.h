@@ -65,6 +65,7 @@ struct kesvuot_span {
 
 /* What a call returns. Each call says which of these it can return. */
 enum {
+    /* registry: statuses */
     KESVUOT_OK = 0,
     KESVUOT_REFUSED = 1,   /* the bytes break a rule */
     KESVUOT_NO_MEMORY = 2, /* memory ran out: there is no verdict. kesvuot_verify says for which files this can be */
@@ -72,19 +73,32 @@ enum {
     KESVUOT_UNREAD = 4,    /* the slice is 32-bit or big-endian: nothing in it is judged */
     KESVUOT_ZERO = 5,      /* the address is mapped, but to no byte of the file: a loader puts a zero there */
     KESVUOT_UNKNOWN_PROFILE = 6 /* no profile has the number that kesvuot_verify got */
+    /* registry: end */
 };
 
 /* The profiles, by which kesvuot_verify judges a file. No profile has the number 0. */
 enum {
-    KESVUOT_LAYOUT = 1,
-    KESVUOT_STRICT = 2,
-    KESVUOT_LINKED = 3,
-    KESVUOT_SEALED = 4
+    /* registry: profiles */
+    KESVUOT_LAYOUT = 1, /* a loader that follows the headers and checks no bounds reads only bytes of the slice.
+                           RULES.md explains the rules */
+    KESVUOT_STRICT = 2, /* every nonzero byte is accounted for, and no byte belongs to two elements, such as the
+                           headers, a section or a table. RULES.md explains the rules */
+    KESVUOT_LINKED = 3, /* the rules judge where the linked data of an image lies; what the opcodes of LC_DYLD_INFO and
+                           LC_DYLD_INFO_ONLY, the table of LC_DYLD_CHAINED_FIXUPS and the chains of pointers in the
+                           pages ask a dynamic loader for; what the image exports; where functions start and data is in
+                           code; how a code signature is built; what symbols and relocations refer to; where threads
+                           begin; and what all other commands of loader.h hold. LINKED.md explains the rules */
+    KESVUOT_SEALED = 4  /* each image has a code signature; each code directory has the hashes of all bytes before the
+                           signature and of the blobs in special slots; and each nonzero byte from the signature on is
+                           in the signature's header, its index or a blob. The profile does not say who signed, and it
+                           reads nothing outside of the file. SEALED.md explains the rules */
+    /* registry: end */
 };
 
 /* The rules, in the order in which this version judges them. RULES.md says when each is broken, what usually breaks it,
  * and what its place is. */
 enum {
+    /* registry: rules */
     /* of the file */
     KESVUOT_MAGIC = 1,
     KESVUOT_FAT_TRUNCATED = 2,
@@ -171,6 +185,7 @@ enum {
     KESVUOT_DIRECTORY_REPEATED = 79,
     KESVUOT_SIGNATURE_SLACK = 80,
     KESVUOT_SIGNATURE_HASH = 81
+    /* registry: end */
 };
 
 /* The verdict on a file */
@@ -184,19 +199,7 @@ struct kesvuot_verdict {
 
 /* Judges a file by the rules of a profile, after all rules of the profiles before it. A file that a profile accepts is
  * also accepted by each profile before it.
- * LAYOUT: a loader that follows the headers and checks no bounds reads only bytes of the slice. RULES.md explains the
- * rules of the file and of an image.
- * STRICT: every nonzero byte is accounted for, and no byte belongs to two elements, such as the headers, a section or a
- * table. RULES.md explains the rules.
- * LINKED: the rules judge where the linked data of an image lies; what the opcodes of LC_DYLD_INFO and
- * LC_DYLD_INFO_ONLY, the table of LC_DYLD_CHAINED_FIXUPS and the chains of pointers in the pages ask a dynamic loader
- * for; what the image exports; where functions start and data is in code; how a code signature is built; what symbols
- * and relocations refer to; where threads begin; and what all other commands of loader.h hold. LINKED.md explains the
- * rules.
- * SEALED: each image has a code signature; each code directory has the hashes of all bytes before the signature and of
- * the blobs in special slots; and each nonzero byte from the signature on is in the signature's header, its index or a
- * blob. SEALED.md explains the rules. The profile does not say who signed, and it reads nothing outside of the file.
- * The bytes before the signature are hashed for each code directory; an image has at most six.
+ * For SEALED the bytes before the signature are hashed for each code directory; an image has at most six.
  *
  * OK: no rule is broken, and `slices` is set. REFUSED: `rule` is the first broken rule, and the file breaks it at
  * `place`. NO_MEMORY: there is no verdict. All other fields are 0.
@@ -272,6 +275,7 @@ static inline const char *kesvuot_platform_name(uint32_t platform) {
 /* What a part of a file is, and what its index counts: `kind` of struct kesvuot_part. An index is KESVUOT_NO_INDEX if
  * nothing is said of it. */
 enum {
+    /* registry: parts */
     KESVUOT_PART_NONE = 0,            /* no part: all numbers are 0 */
     KESVUOT_PART_FILE = 1,            /* all bytes of the file */
     KESVUOT_PART_MAGIC = 2,           /* the first 4 bytes of the file or, with its index, of a slice */
@@ -315,6 +319,7 @@ enum {
     KESVUOT_PART_RELOCATION = 36,     /* relocation_info. The index counts from 0 in its table */
     KESVUOT_PART_CODE_PAGE = 37,      /* the bytes of the page with this index of a code directory */
     KESVUOT_PART_CODE_HASH = 38       /* a hash in a code directory, of the page or the special slot with this index */
+    /* registry: end */
 };
 
 /* A structure, or what a structure describes. A part lies where the file says, which can be past the file. */
@@ -378,12 +383,14 @@ uint32_t kesvuot_arch_named(const void *name, size_t name_size, uint32_t *cputyp
 
 /* Which parts an image has: bits of `has`. */
 enum {
+    /* registry: has */
     KESVUOT_HAS_UUID = 1,
     KESVUOT_HAS_BASE = 2,
     KESVUOT_HAS_ENTRY = 4,
     KESVUOT_HAS_SYMTAB = 8,
     KESVUOT_HAS_DYSYMTAB = 16,
     KESVUOT_HAS_ID = 32
+    /* registry: end */
 };
 
 struct kesvuot_library {      /* dylib_command */
@@ -780,24 +787,26 @@ uint32_t kesvuot_find_data(const void *file, size_t size, const struct kesvuot_i
 
 /* The tables of an image, with the fields that bound each, and what its items are. */
 enum {
+    /* registry: tables */
     /* of LC_SYMTAB */
     KESVUOT_TABLE_SYMBOLS = 1, /* symoff, nsyms: nlist_64 of 16 bytes */
-    KESVUOT_TABLE_STRINGS = 2, /* stroff, strsize: bytes */
+    KESVUOT_TABLE_STRINGS = 2, /* stroff, strsize: the strings of the symbols */
     /* of LC_DYSYMTAB */
     KESVUOT_TABLE_CONTENTS = 3,             /* tocoff, ntoc: dylib_table_of_contents of 8 bytes */
     KESVUOT_TABLE_MODULES = 4,              /* modtaboff, nmodtab: dylib_module_64 of 56 bytes */
     KESVUOT_TABLE_REFERENCES = 5,           /* extrefsymoff, nextrefsyms: dylib_reference of 4 bytes */
-    KESVUOT_TABLE_INDIRECTS = 6,            /* indirectsymoff, nindirectsyms: uint32_t */
+    KESVUOT_TABLE_INDIRECTS = 6,            /* indirectsymoff, nindirectsyms: indirect entries of 4 bytes */
     KESVUOT_TABLE_EXTERNAL_RELOCATIONS = 7, /* extreloff, nextrel: relocation_info of 8 bytes */
     KESVUOT_TABLE_LOCAL_RELOCATIONS = 8,    /* locreloff, nlocrel: relocation_info of 8 bytes */
-    /* of LC_DYLD_INFO or LC_DYLD_INFO_ONLY, in bytes */
-    KESVUOT_TABLE_REBASE = 9,     /* rebase_off, rebase_size */
-    KESVUOT_TABLE_BIND = 10,      /* bind_off, bind_size */
-    KESVUOT_TABLE_WEAK_BIND = 11, /* weak_bind_off, weak_bind_size */
-    KESVUOT_TABLE_LAZY_BIND = 12, /* lazy_bind_off, lazy_bind_size */
-    KESVUOT_TABLE_EXPORT = 13,    /* export_off, export_size */
-    /* of LC_ENCRYPTION_INFO_64, in bytes */
-    KESVUOT_TABLE_ENCRYPTED = 14 /* cryptoff, cryptsize */
+    /* of LC_DYLD_INFO or LC_DYLD_INFO_ONLY */
+    KESVUOT_TABLE_REBASE = 9,     /* rebase_off, rebase_size: bytes */
+    KESVUOT_TABLE_BIND = 10,      /* bind_off, bind_size: bytes */
+    KESVUOT_TABLE_WEAK_BIND = 11, /* weak_bind_off, weak_bind_size: bytes */
+    KESVUOT_TABLE_LAZY_BIND = 12, /* lazy_bind_off, lazy_bind_size: bytes */
+    KESVUOT_TABLE_EXPORT = 13,    /* export_off, export_size: bytes */
+    /* of LC_ENCRYPTION_INFO_64 */
+    KESVUOT_TABLE_ENCRYPTED = 14 /* cryptoff, cryptsize: bytes */
+    /* registry: end */
 };
 
 /* A table of an image, by one of these numbers. With several such commands it is a table of the first, LC_DYLD_INFO or
@@ -833,8 +842,9 @@ uint32_t kesvuot_find_thread_entry(const void *file, size_t size, const struct k
 uint32_t kesvuot_find_address(const void *file, size_t size, const struct kesvuot_image *image, uint64_t address,
                               struct kesvuot_span *bytes);
 
-/* Constants of the headers of the system. packaging/constants prints them from the sources of the library. */
+/* Constants of the headers of the system. */
 
+/* registry: constants */
 /* The load commands. (mach-o/loader.h) */
 #define KESVUOT_LC_SEGMENT 0x1
 #define KESVUOT_LC_SYMTAB 0x2
@@ -970,8 +980,7 @@ uint32_t kesvuot_find_address(const void *file, size_t size, const struct kesvuo
 #define KESVUOT_VM_PROT_READ 1
 #define KESVUOT_VM_PROT_WRITE 2
 #define KESVUOT_VM_PROT_EXECUTE 4
-
-/* The end of the constants. */
+/* registry: end */
 
 /* The layout of the structures in the library, which is for 64-bit machines. C99 and C++98 cannot check it. */
 #if (defined(__cplusplus) && __cplusplus >= 201103L) || (defined(__STDC_VERSION__) && __STDC_VERSION__ >= 201112L)

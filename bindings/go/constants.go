@@ -1,7 +1,8 @@
 package kesvuot
 
-// Constants of the headers of the system, by their own names. Made by packaging/constants.
+// Constants of the headers of the system, by their own names. Made by registry/generate.
 const (
+	// registry: constants
 	// The load commands. (mach-o/loader.h)
 	LC_SEGMENT                  = 0x1
 	LC_SYMTAB                   = 0x2
@@ -137,4 +138,5 @@ const (
 	VM_PROT_READ    = 1
 	VM_PROT_WRITE   = 2
 	VM_PROT_EXECUTE = 4
+	// registry: end
 )

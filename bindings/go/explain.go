@@ -5,6 +5,7 @@ type PartKind uint32
 
 // The kinds of parts. NoPart is the kind of a Part that is none, of which all other fields are 0 or NoIndex.
 const (
+	// registry: parts
 	NoPart          PartKind = 0
 	WholeFile       PartKind = 1
 	Magic           PartKind = 2
@@ -44,6 +45,7 @@ const (
 	RelocationEntry PartKind = 36
 	CodePage        PartKind = 37
 	CodeHash        PartKind = 38
+	// registry: end
 )
 
 // NoIndex says that there is no index.

@@ -182,7 +182,8 @@ type Table uint32
 
 // The tables, with their fields, and what their items are.
 const (
-	// SymbolTable has the symbols, of 16 bytes: symoff and nsyms of LC_SYMTAB.
+	// registry: tables
+	// SymbolTable has nlist_64 of 16 bytes: symoff and nsyms of LC_SYMTAB.
 	SymbolTable Table = 1
 	// StringTable has the strings of the symbols: stroff and strsize of LC_SYMTAB.
 	StringTable Table = 2
@@ -192,7 +193,7 @@ const (
 	ModuleTable Table = 4
 	// ReferenceTable has dylib_reference of 4 bytes: extrefsymoff and nextrefsyms of LC_DYSYMTAB.
 	ReferenceTable Table = 5
-	// IndirectTable has the indirect entries, of 4 bytes: indirectsymoff and nindirectsyms of LC_DYSYMTAB.
+	// IndirectTable has indirect entries of 4 bytes: indirectsymoff and nindirectsyms of LC_DYSYMTAB.
 	IndirectTable Table = 6
 	// ExternalRelocationTable has relocation_info of 8 bytes: extreloff and nextrel of LC_DYSYMTAB.
 	ExternalRelocationTable Table = 7
@@ -200,16 +201,17 @@ const (
 	LocalRelocationTable Table = 8
 	// RebaseTable has bytes: rebase_off and rebase_size of LC_DYLD_INFO or LC_DYLD_INFO_ONLY.
 	RebaseTable Table = 9
-	// BindTable has bytes: bind_off and bind_size of the same command.
+	// BindTable has bytes: bind_off and bind_size of LC_DYLD_INFO or LC_DYLD_INFO_ONLY.
 	BindTable Table = 10
-	// WeakBindTable has bytes: weak_bind_off and weak_bind_size of the same command.
+	// WeakBindTable has bytes: weak_bind_off and weak_bind_size of LC_DYLD_INFO or LC_DYLD_INFO_ONLY.
 	WeakBindTable Table = 11
-	// LazyBindTable has bytes: lazy_bind_off and lazy_bind_size of the same command.
+	// LazyBindTable has bytes: lazy_bind_off and lazy_bind_size of LC_DYLD_INFO or LC_DYLD_INFO_ONLY.
 	LazyBindTable Table = 12
-	// ExportTable has bytes: export_off and export_size of the same command.
+	// ExportTable has bytes: export_off and export_size of LC_DYLD_INFO or LC_DYLD_INFO_ONLY.
 	ExportTable Table = 13
 	// EncryptedTable has bytes: cryptoff and cryptsize of LC_ENCRYPTION_INFO_64.
 	EncryptedTable Table = 14
+	// registry: end
 )
 
 // Table returns a table of the image. It is not ok if no command bounds it. With several such commands it is a table

@@ -47,21 +47,24 @@ type Profile uint32
 // The profiles. Each judges the rules of the profiles before it, and then its own. A file that a profile accepts is
 // also accepted by each profile before it.
 const (
-	// Layout judges where the parts that the headers describe lie. RULES.md explains its rules.
+	// registry: profiles
+	// Layout: a loader that follows the headers and checks no bounds reads only bytes of the slice. RULES.md explains the
+	// rules.
 	Layout Profile = 1
-	// Strict refuses nonzero bytes that no header accounts for, and bytes that belong to two elements, such as the
-	// headers, a section or a table. RULES.md explains its rules.
+	// Strict: every nonzero byte is accounted for, and no byte belongs to two elements, such as the headers, a section or
+	// a table. RULES.md explains the rules.
 	Strict Profile = 2
-	// Linked judges where the linked data of an image lies; what the opcodes of LC_DYLD_INFO and LC_DYLD_INFO_ONLY, the
-	// table of LC_DYLD_CHAINED_FIXUPS and the chains of pointers in the pages ask a dynamic loader for; what the image
-	// exports; where functions start and data is in code; how a code signature is built; what symbols and relocations
-	// refer to; where threads begin; and what all other commands of loader.h hold. LINKED.md explains its rules.
+	// Linked: the rules judge where the linked data of an image lies; what the opcodes of LC_DYLD_INFO and
+	// LC_DYLD_INFO_ONLY, the table of LC_DYLD_CHAINED_FIXUPS and the chains of pointers in the pages ask a dynamic loader
+	// for; what the image exports; where functions start and data is in code; how a code signature is built; what symbols
+	// and relocations refer to; where threads begin; and what all other commands of loader.h hold. LINKED.md explains the
+	// rules.
 	Linked Profile = 3
-	// Sealed judges whether each image has a code signature, whether each code directory has the hashes of all bytes
-	// before the signature and of the blobs in special slots, and whether each nonzero byte from the signature on is in
-	// the signature's header, its index or a blob. SEALED.md explains its rules. The profile does not say who signed, and
-	// it reads nothing outside of the file.
+	// Sealed: each image has a code signature; each code directory has the hashes of all bytes before the signature and of
+	// the blobs in special slots; and each nonzero byte from the signature on is in the signature's header, its index or a
+	// blob. The profile does not say who signed, and it reads nothing outside of the file. SEALED.md explains the rules.
 	Sealed Profile = 4
+	// registry: end
 )
 
 // A Rule is the name of a rule, such as "section-file". RULES.md, LINKED.md and SEALED.md explain each rule under its

@@ -10,12 +10,15 @@ from ._files import Refused, rule_numbers
 from ._library import EXPLANATION, VERDICT, Bytes, Data, load
 
 # The kinds of parts from 1 on, as KESVUOT_PART_.. of kesvuot.h has them.
-KINDS = ("file", "magic", "fat-header", "fat-table", "fat-arch", "slice", "header", "headers", "command", "segment",
-         "segment-memory", "section", "section-bytes", "section-memory", "relocations", "table", "group", "name",
-         "symbol", "indirect", "opcode", "byte", "chain-header", "chain-array", "chain-entry", "chain-starts",
-         "chain-import", "page-start", "chain-pointer", "function-start", "data-in-code-entry",
-         "data-in-code", "export-node", "signature-entry", "signature-blob", "relocation",
-         "code-page", "code-hash")
+KINDS = (
+    # registry: parts
+    "file", "magic", "fat-header", "fat-table", "fat-arch", "slice", "header", "headers", "command", "segment",
+    "segment-memory", "section", "section-bytes", "section-memory", "relocations", "table", "group", "name", "symbol",
+    "indirect", "opcode", "byte", "chain-header", "chain-array", "chain-entry", "chain-starts", "chain-import",
+    "page-start", "chain-pointer", "function-start", "data-in-code-entry", "data-in-code", "export-node",
+    "signature-entry", "signature-blob", "relocation", "code-page", "code-hash",
+    # registry: end
+)
 
 
 class Part(NamedTuple):

@@ -71,20 +71,22 @@ class Dysymtab(NamedTuple):
 class BoundedTable(enum.Enum):
     """A table of an image, by the two fields of a command that bound it, and what its items are."""
 
-    SYMBOLS = 1  # symoff, nsyms of LC_SYMTAB: nlist_64 of 16 bytes
-    STRINGS = 2  # stroff, strsize: bytes
-    CONTENTS = 3  # tocoff, ntoc of LC_DYSYMTAB: dylib_table_of_contents of 8 bytes
-    MODULES = 4  # modtaboff, nmodtab: dylib_module_64 of 56 bytes
-    REFERENCES = 5  # extrefsymoff, nextrefsyms: dylib_reference of 4 bytes
-    INDIRECTS = 6  # indirectsymoff, nindirectsyms: indirect entries of 4 bytes
-    EXTERNAL_RELOCATIONS = 7  # extreloff, nextrel: relocation_info of 8 bytes
-    LOCAL_RELOCATIONS = 8  # locreloff, nlocrel: relocation_info of 8 bytes
-    REBASE = 9  # rebase_off, rebase_size of LC_DYLD_INFO or LC_DYLD_INFO_ONLY: bytes
-    BIND = 10  # bind_off, bind_size
-    WEAK_BIND = 11  # weak_bind_off, weak_bind_size
-    LAZY_BIND = 12  # lazy_bind_off, lazy_bind_size
-    EXPORT = 13  # export_off, export_size
-    ENCRYPTED = 14  # cryptoff, cryptsize of LC_ENCRYPTION_INFO_64: bytes
+    # registry: tables
+    SYMBOLS = 1  # symoff and nsyms of LC_SYMTAB: nlist_64 of 16 bytes
+    STRINGS = 2  # stroff and strsize of LC_SYMTAB: the strings of the symbols
+    CONTENTS = 3  # tocoff and ntoc of LC_DYSYMTAB: dylib_table_of_contents of 8 bytes
+    MODULES = 4  # modtaboff and nmodtab of LC_DYSYMTAB: dylib_module_64 of 56 bytes
+    REFERENCES = 5  # extrefsymoff and nextrefsyms of LC_DYSYMTAB: dylib_reference of 4 bytes
+    INDIRECTS = 6  # indirectsymoff and nindirectsyms of LC_DYSYMTAB: indirect entries of 4 bytes
+    EXTERNAL_RELOCATIONS = 7  # extreloff and nextrel of LC_DYSYMTAB: relocation_info of 8 bytes
+    LOCAL_RELOCATIONS = 8  # locreloff and nlocrel of LC_DYSYMTAB: relocation_info of 8 bytes
+    REBASE = 9  # rebase_off and rebase_size of LC_DYLD_INFO or LC_DYLD_INFO_ONLY: bytes
+    BIND = 10  # bind_off and bind_size of LC_DYLD_INFO or LC_DYLD_INFO_ONLY: bytes
+    WEAK_BIND = 11  # weak_bind_off and weak_bind_size of LC_DYLD_INFO or LC_DYLD_INFO_ONLY: bytes
+    LAZY_BIND = 12  # lazy_bind_off and lazy_bind_size of LC_DYLD_INFO or LC_DYLD_INFO_ONLY: bytes
+    EXPORT = 13  # export_off and export_size of LC_DYLD_INFO or LC_DYLD_INFO_ONLY: bytes
+    ENCRYPTED = 14  # cryptoff and cryptsize of LC_ENCRYPTION_INFO_64: bytes
+    # registry: end
 
 
 class SourceKind(enum.Enum):

@@ -15,8 +15,21 @@ Data = Union[bytes, bytearray, memoryview, mmap.mmap]
 SONAME, MAJOR = "libkesvuot.so.2", 2
 # Where `make install-lib` puts this package, and where the archive of `make dist` has it: below the folder of `lib`.
 INSTALLED = re.compile("(.*)/(?:lib/python3[^/]*/(?:site|dist)-packages|share/kesvuot/python)/kesvuot")
-OK, REFUSED, NO_MEMORY, NONE, UNREAD, ZERO, UNKNOWN_PROFILE = range(7)
-HAS_UUID, HAS_BASE, HAS_ENTRY, HAS_SYMTAB, HAS_DYSYMTAB, HAS_ID = 1, 2, 4, 8, 16, 32
+# registry: numbers
+OK = 0
+REFUSED = 1
+NO_MEMORY = 2
+NONE = 3
+UNREAD = 4
+ZERO = 5
+UNKNOWN_PROFILE = 6
+HAS_UUID = 1
+HAS_BASE = 2
+HAS_ENTRY = 4
+HAS_SYMTAB = 8
+HAS_DYSYMTAB = 16
+HAS_ID = 32
+# registry: end
 NO_SECTION = NO_INDEX = 0xFFFF_FFFF
 
 # x is reserved.
@@ -68,39 +81,50 @@ def _declare(library: Any) -> None:
     """Gives each call its types, as in kesvuot.h."""
     pointer, size, u32, u64 = ctypes.c_void_p, ctypes.c_size_t, ctypes.c_uint32, ctypes.c_uint64
     calls: Dict[str, Tuple[Any, List[Any]]] = {
-        "find_profile": (u32, [u32, pointer]),
-        "find_rule": (u32, [u32, pointer]),
-        "rule_profile": (u32, [u32]),
-        "find_command": (u32, [u32, pointer]),
-        "find_platform": (u32, [u32, pointer]),
-        "find_arch": (u32, [u32, u32, pointer]),
-        "arch_named": (u32, [pointer, size, pointer, pointer]),
-        "verify": (u32, [pointer, size, u32, pointer]),
-        "explain": (u32, [pointer, size, pointer, pointer]),
-        "layout": (u32, [pointer, size, pointer, size, pointer]),
-        "read_image": (u32, [pointer, size, u64, pointer]),
-        "symbol_name": (u32, [pointer, size, pointer, u32, pointer]),
-        "read_names": (size, [pointer, size, pointer, pointer, size, pointer, size]),
-        "find_data": (u32, [pointer, size, pointer, u32, pointer]),
-        "find_table": (u32, [pointer, size, pointer, u32, pointer]),
-        "find_source_version": (u32, [pointer, size, pointer, pointer]),
-        "find_thread_entry": (u32, [pointer, size, pointer, pointer]),
-        "read_code_directory": (u32, [pointer, size, pointer, pointer]),
-        "read_cdhash": (u32, [pointer, size, pointer, pointer]),
-        "read_relocations": (size, [pointer, size, pointer, u32, u32, pointer, pointer, size]),
-        "find_address": (u32, [pointer, size, pointer, u64, pointer]),
-        "index_symbols": (size, [pointer, size, pointer, pointer, size]),
-        "find_symbol": (u32, [pointer, size, pointer, pointer, size, u64, pointer, pointer]),
-        "find_name": (u32, [pointer, size, pointer, pointer, size, pointer, pointer]),
-        "find_export": (u32, [pointer, size, pointer, pointer, size, pointer]),
-        "find_export_trie": (u32, [pointer, size, pointer, pointer]),
-        "read_export_node": (u32, [pointer, size, pointer, pointer, u64, pointer]),
-        "read_export_edges": (size, [pointer, size, pointer, pointer, pointer, size])}
-    for table in ("segments", "sections", "libraries", "builds", "commands", "symbols", "indirects",
-                  "function_starts", "data_in_code", "blobs"):
-        calls[f"read_{table}"] = (size, [pointer, size, pointer, pointer, pointer, size])
+        # registry: calls
+        "kesvuot_version": (u32, []),
+        "kesvuot_verify": (u32, [pointer, size, u32, pointer]),
+        "kesvuot_layout": (u32, [pointer, size, pointer, size, pointer]),
+        "kesvuot_find_rule": (u32, [u32, pointer]),
+        "kesvuot_rule_profile": (u32, [u32]),
+        "kesvuot_find_profile": (u32, [u32, pointer]),
+        "kesvuot_find_command": (u32, [u32, pointer]),
+        "kesvuot_find_platform": (u32, [u32, pointer]),
+        "kesvuot_explain": (u32, [pointer, size, pointer, pointer]),
+        "kesvuot_find_arch": (u32, [u32, u32, pointer]),
+        "kesvuot_arch_named": (u32, [pointer, size, pointer, pointer]),
+        "kesvuot_read_image": (u32, [pointer, size, u64, pointer]),
+        "kesvuot_read_commands": (size, [pointer, size, pointer, pointer, pointer, size]),
+        "kesvuot_read_segments": (size, [pointer, size, pointer, pointer, pointer, size]),
+        "kesvuot_read_sections": (size, [pointer, size, pointer, pointer, pointer, size]),
+        "kesvuot_read_libraries": (size, [pointer, size, pointer, pointer, pointer, size]),
+        "kesvuot_read_builds": (size, [pointer, size, pointer, pointer, pointer, size]),
+        "kesvuot_read_symbols": (size, [pointer, size, pointer, pointer, pointer, size]),
+        "kesvuot_read_indirects": (size, [pointer, size, pointer, pointer, pointer, size]),
+        "kesvuot_read_relocations": (size, [pointer, size, pointer, u32, u32, pointer, pointer, size]),
+        "kesvuot_read_function_starts": (size, [pointer, size, pointer, pointer, pointer, size]),
+        "kesvuot_read_data_in_code": (size, [pointer, size, pointer, pointer, pointer, size]),
+        "kesvuot_read_blobs": (size, [pointer, size, pointer, pointer, pointer, size]),
+        "kesvuot_read_code_directory": (u32, [pointer, size, pointer, pointer]),
+        "kesvuot_read_cdhash": (u32, [pointer, size, pointer, pointer]),
+        "kesvuot_symbol_name": (u32, [pointer, size, pointer, u32, pointer]),
+        "kesvuot_read_names": (size, [pointer, size, pointer, pointer, size, pointer, size]),
+        "kesvuot_index_symbols": (size, [pointer, size, pointer, pointer, size]),
+        "kesvuot_find_symbol": (u32, [pointer, size, pointer, pointer, size, u64, pointer, pointer]),
+        "kesvuot_find_name": (u32, [pointer, size, pointer, pointer, size, pointer, pointer]),
+        "kesvuot_find_export": (u32, [pointer, size, pointer, pointer, size, pointer]),
+        "kesvuot_find_export_trie": (u32, [pointer, size, pointer, pointer]),
+        "kesvuot_read_export_node": (u32, [pointer, size, pointer, pointer, u64, pointer]),
+        "kesvuot_read_export_edges": (size, [pointer, size, pointer, pointer, pointer, size]),
+        "kesvuot_find_data": (u32, [pointer, size, pointer, u32, pointer]),
+        "kesvuot_find_table": (u32, [pointer, size, pointer, u32, pointer]),
+        "kesvuot_find_source_version": (u32, [pointer, size, pointer, pointer]),
+        "kesvuot_find_thread_entry": (u32, [pointer, size, pointer, pointer]),
+        "kesvuot_find_address": (u32, [pointer, size, pointer, u64, pointer]),
+        # registry: end
+    }
     for name, (result, arguments) in calls.items():
-        call = getattr(library, f"kesvuot_{name}")
+        call = getattr(library, name)
         call.restype, call.argtypes = result, arguments
 
 

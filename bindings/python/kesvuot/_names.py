@@ -7,14 +7,20 @@ from .constants import LC_ID_DYLIB
 
 # PLATFORM_*, for LC_BUILD_VERSION.
 PLATFORMS = {
+    # registry: platforms
     1: "macOS", 2: "iOS", 3: "tvOS", 4: "watchOS", 5: "bridgeOS", 6: "Mac Catalyst", 7: "iOS Simulator",
-    8: "tvOS Simulator", 9: "watchOS Simulator", 10: "DriverKit", 11: "visionOS", 12: "visionOS Simulator"}
+    8: "tvOS Simulator", 9: "watchOS Simulator", 10: "DriverKit", 11: "visionOS", 12: "visionOS Simulator",
+    # registry: end
+}
 
 # The filetypes, and the numbers of those that are judged.
 FILETYPES = {
+    # registry: filetypes
     1: "object file", 2: "program", 3: "fixed library", 4: "core file", 5: "preloaded program", 6: "library",
     7: "dynamic linker", 8: "bundle", 9: "stub of a library", 10: "debugging data", 11: "kernel extension",
-    12: "set of kernel extensions"}
+    12: "set of kernel extensions",
+    # registry: end
+}
 JUDGED_FILETYPES = [number for name, number in vars(constants).items() if name.startswith("MH_")]
 
 # What an image has to do with a library that it names.

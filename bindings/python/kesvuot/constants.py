@@ -1,5 +1,6 @@
-"""Constants of the headers of the system, by their own names. Made by packaging/constants."""
+"""Constants of the headers of the system, by their own names. Made by registry/generate."""
 
+# registry: constants
 # The load commands. (mach-o/loader.h)
 LC_SEGMENT = 0x1
 LC_SYMTAB = 0x2
@@ -135,3 +136,4 @@ CS_CDHASH_LEN = 20
 VM_PROT_READ = 1
 VM_PROT_WRITE = 2
 VM_PROT_EXECUTE = 4
+# registry: end

@@ -1,7 +1,8 @@
-//! Constants of the headers of the system, by their own names. Made by `packaging/constants`.
+//! Constants of the headers of the system, by their own names. Made by `registry/generate`.
 
 #![allow(missing_docs)]
 
+// registry: constants
 // The load commands. (mach-o/loader.h)
 pub const LC_SEGMENT: u32 = 0x1;
 pub const LC_SYMTAB: u32 = 0x2;
@@ -137,3 +138,4 @@ pub const CS_CDHASH_LEN: u64 = 20;
 pub const VM_PROT_READ: u32 = 1;
 pub const VM_PROT_WRITE: u32 = 2;
 pub const VM_PROT_EXECUTE: u32 = 4;
+// registry: end

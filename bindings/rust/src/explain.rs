@@ -31,6 +31,7 @@ macro_rules! kinds {
 }
 
 kinds! {
+    // registry: parts
     /// All bytes of the file.
     File = 1,
     /// The first 4 bytes of the file or, with its index, of a slice.
@@ -49,11 +50,11 @@ kinds! {
     Headers = 8,
     /// `load_command`: all `cmdsize` bytes. The index is that of [`commands`](crate::Image::commands).
     Command = 9,
-    /// The file bytes of a segment, with its index in [`segments`](crate::Image::segments).
+    /// The file bytes of a segment, with the index of [`segments`](crate::Image::segments).
     Segment = 10,
     /// Its addresses: `vmsize` from `vmaddr` on.
     SegmentMemory = 11,
-    /// `section_64`, with its index in [`sections`](crate::Image::sections).
+    /// `section_64`, with the index of [`sections`](crate::Image::sections).
     Section = 12,
     /// The bytes of a section in the file.
     SectionBytes = 13,
@@ -61,16 +62,16 @@ kinds! {
     SectionMemory = 14,
     /// Its relocations.
     Relocations = 15,
-    /// A table that a command bounds. The index counts its tables in the order of "Bounded tables" in
-    /// `docs/RULES.md`: of `LC_SYMTAB` 0 the symbols, 1 the strings.
+    /// A table that a command bounds. The index counts its tables in the order of "Bounded tables" in `docs/RULES.md`:
+    /// of `LC_SYMTAB` 0 the symbols, 1 the strings.
     Table = 16,
-    /// Indices of symbols: 0 the local ones, 1 the external ones, 2 the undefined ones.
+    /// Indices of symbols: 0 the local, 1 the external, 2 the undefined ones.
     Group = 17,
     /// The bytes from the start of a name to where it has to end.
     Name = 18,
-    /// `nlist_64`, with its index in [`symbols`](crate::Image::symbols).
+    /// `nlist_64`, with the index of [`symbols`](crate::Image::symbols).
     Symbol = 19,
-    /// An indirect entry, with its index in [`indirects`](crate::Image::indirects).
+    /// An indirect entry, with the index of [`indirects`](crate::Image::indirects).
     Indirect = 20,
     /// An opcode with its operands, or one byte if they are not known.
     Opcode = 21,
@@ -82,8 +83,8 @@ kinds! {
     ChainArray = 24,
     /// `seg_info_offset` of the segment with this index.
     ChainEntry = 25,
-    /// `dyld_chained_starts_in_segment` of the segment with this index: all its `size` bytes, or 22 if
-    /// its first 22 are not all in the table.
+    /// `dyld_chained_starts_in_segment` of the segment with this index: all its `size` bytes, or 22 if its first 22 are
+    /// not all in the table.
     ChainStarts = 26,
     /// An import of chained fixups. The index counts from 0.
     ChainImport = 27,
@@ -93,17 +94,16 @@ kinds! {
     ChainPointer = 29,
     /// A number of `LC_FUNCTION_STARTS`.
     FunctionStart = 30,
-    /// `data_in_code_entry`, with the index of `Image::data_in_code`.
+    /// `data_in_code_entry`, with the index of [`data_in_code`](crate::Image::data_in_code).
     DataInCodeEntry = 31,
-    /// The bytes that it describes, with the same index.
+    /// The bytes of the file that it describes, with the same index.
     DataInCode = 32,
-    /// A node of an export trie, up to the end of its last edge, or if it does not end in the table,
-    /// up to the end of that: no bytes if it would begin past it.
+    /// A node of an export trie, up to the end of its last edge, or if it does not end in the table, up to the end of
+    /// that: no bytes if it would begin past it.
     ExportNode = 33,
     /// `CS_BlobIndex` of a code signature, with its index there.
     SignatureEntry = 34,
-    /// The blob of the entry with this index: all its `length` bytes, or 8 if its first 8 are not all in
-    /// the superblob.
+    /// The blob of the entry with this index: all its `length` bytes, or 8 if its first 8 are not all in the superblob.
     SignatureBlob = 35,
     /// `relocation_info`. The index counts from 0 in its table.
     Relocation = 36,
@@ -111,6 +111,7 @@ kinds! {
     CodePage = 37,
     /// A hash in a code directory, of the page or the special slot with this index.
     CodeHash = 38,
+    // registry: end
 }
 
 /// A structure, or what a structure describes. It lies where the file says, which can be past the

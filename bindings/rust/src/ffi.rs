@@ -7,20 +7,30 @@ use alloc::vec::Vec;
 use core::ffi::c_void;
 use core::{cmp, ptr, slice, str};
 
-/// What a call returns. `NO_MEMORY` and `NONE` are the remaining statuses.
-pub const OK: u32 = 0;
-pub const REFUSED: u32 = 1;
-pub const UNREAD: u32 = 4;
-pub const ZERO: u32 = 5;
-pub const UNKNOWN_PROFILE: u32 = 6;
+/// What a call returns. Not each is told apart.
+#[allow(dead_code)]
+mod status {
+    // registry: statuses
+    pub const OK: u32 = 0;
+    pub const REFUSED: u32 = 1;
+    pub const NO_MEMORY: u32 = 2;
+    pub const NONE: u32 = 3;
+    pub const UNREAD: u32 = 4;
+    pub const ZERO: u32 = 5;
+    pub const UNKNOWN_PROFILE: u32 = 6;
+    // registry: end
+}
+pub use status::*;
 
 /// The bits of `Image::has`.
+// registry: has
 pub const HAS_UUID: u32 = 1;
 pub const HAS_BASE: u32 = 2;
 pub const HAS_ENTRY: u32 = 4;
 pub const HAS_SYMTAB: u32 = 8;
 pub const HAS_DYSYMTAB: u32 = 16;
 pub const HAS_ID: u32 = 32;
+// registry: end
 
 /// `KESVUOT_NO_SECTION`
 pub const NO_SECTION: u32 = u32::MAX;
@@ -280,27 +290,10 @@ struct Text {
 }
 
 extern "C" {
+    // registry: calls
     fn kesvuot_version() -> u32;
-    fn kesvuot_find_rule(rule: u32, name: *mut Text) -> u32;
-    fn kesvuot_rule_profile(rule: u32) -> u32;
-    fn kesvuot_find_profile(profile: u32, name: *mut Text) -> u32;
-    fn kesvuot_find_command(cmd: u32, name: *mut Text) -> u32;
-    fn kesvuot_find_platform(platform: u32, name: *mut Text) -> u32;
-    fn kesvuot_find_arch(cputype: u32, cpusubtype: u32, name: *mut Text) -> u32;
-    fn kesvuot_arch_named(
-        name: *const c_void,
-        name_size: usize,
-        cputype: *mut u32,
-        cpusubtype: *mut u32,
-    ) -> u32;
     fn kesvuot_verify(file: *const c_void, size: usize, profile: u32, verdict: *mut Verdict)
         -> u32;
-    fn kesvuot_explain(
-        file: *const c_void,
-        size: usize,
-        verdict: *const Verdict,
-        explanation: *mut Explanation,
-    ) -> u32;
     fn kesvuot_layout(
         file: *const c_void,
         size: usize,
@@ -308,7 +301,47 @@ extern "C" {
         max: usize,
         needed: *mut usize,
     ) -> u32;
+    fn kesvuot_find_rule(rule: u32, name: *mut Text) -> u32;
+    fn kesvuot_rule_profile(rule: u32) -> u32;
+    fn kesvuot_find_profile(profile: u32, name: *mut Text) -> u32;
+    fn kesvuot_find_command(cmd: u32, name: *mut Text) -> u32;
+    fn kesvuot_find_platform(platform: u32, name: *mut Text) -> u32;
+    fn kesvuot_explain(
+        file: *const c_void,
+        size: usize,
+        verdict: *const Verdict,
+        explanation: *mut Explanation,
+    ) -> u32;
+    fn kesvuot_find_arch(cputype: u32, cpusubtype: u32, name: *mut Text) -> u32;
+    fn kesvuot_arch_named(
+        name: *const c_void,
+        name_size: usize,
+        cputype: *mut u32,
+        cpusubtype: *mut u32,
+    ) -> u32;
     fn kesvuot_read_image(file: *const c_void, size: usize, slice: u64, image: *mut Image) -> u32;
+    fn kesvuot_read_relocations(
+        file: *const c_void,
+        size: usize,
+        image: *const Image,
+        reloff: u32,
+        nreloc: u32,
+        cursor: *mut Cursor,
+        rows: *mut Relocation,
+        max: usize,
+    ) -> usize;
+    fn kesvuot_read_code_directory(
+        file: *const c_void,
+        size: usize,
+        blob: *const Blob,
+        directory: *mut CodeDirectory,
+    ) -> u32;
+    fn kesvuot_read_cdhash(
+        file: *const c_void,
+        size: usize,
+        blob: *const Blob,
+        cdhash: *mut CdHash,
+    ) -> u32;
     fn kesvuot_symbol_name(
         file: *const c_void,
         size: usize,
@@ -325,61 +358,6 @@ extern "C" {
         names: *mut Span,
         max: usize,
     ) -> usize;
-    fn kesvuot_find_data(
-        file: *const c_void,
-        size: usize,
-        image: *const Image,
-        cmd: u32,
-        data: *mut Span,
-    ) -> u32;
-    fn kesvuot_find_table(
-        file: *const c_void,
-        size: usize,
-        image: *const Image,
-        table: u32,
-        bytes: *mut Span,
-    ) -> u32;
-    fn kesvuot_find_source_version(
-        file: *const c_void,
-        size: usize,
-        image: *const Image,
-        version: *mut u64,
-    ) -> u32;
-    fn kesvuot_find_thread_entry(
-        file: *const c_void,
-        size: usize,
-        image: *const Image,
-        entry: *mut u64,
-    ) -> u32;
-    fn kesvuot_read_code_directory(
-        file: *const c_void,
-        size: usize,
-        blob: *const Blob,
-        directory: *mut CodeDirectory,
-    ) -> u32;
-    fn kesvuot_read_cdhash(
-        file: *const c_void,
-        size: usize,
-        blob: *const Blob,
-        cdhash: *mut CdHash,
-    ) -> u32;
-    fn kesvuot_read_relocations(
-        file: *const c_void,
-        size: usize,
-        image: *const Image,
-        reloff: u32,
-        nreloc: u32,
-        cursor: *mut Cursor,
-        rows: *mut Relocation,
-        max: usize,
-    ) -> usize;
-    fn kesvuot_find_address(
-        file: *const c_void,
-        size: usize,
-        image: *const Image,
-        address: u64,
-        bytes: *mut Span,
-    ) -> u32;
     fn kesvuot_index_symbols(
         file: *const c_void,
         size: usize,
@@ -436,6 +414,40 @@ extern "C" {
         rows: *mut ExportEdge,
         max: usize,
     ) -> usize;
+    fn kesvuot_find_data(
+        file: *const c_void,
+        size: usize,
+        image: *const Image,
+        cmd: u32,
+        data: *mut Span,
+    ) -> u32;
+    fn kesvuot_find_table(
+        file: *const c_void,
+        size: usize,
+        image: *const Image,
+        table: u32,
+        bytes: *mut Span,
+    ) -> u32;
+    fn kesvuot_find_source_version(
+        file: *const c_void,
+        size: usize,
+        image: *const Image,
+        version: *mut u64,
+    ) -> u32;
+    fn kesvuot_find_thread_entry(
+        file: *const c_void,
+        size: usize,
+        image: *const Image,
+        entry: *mut u64,
+    ) -> u32;
+    fn kesvuot_find_address(
+        file: *const c_void,
+        size: usize,
+        image: *const Image,
+        address: u64,
+        bytes: *mut Span,
+    ) -> u32;
+    // registry: end
 }
 
 /// The major version of the library whose structures these are.
@@ -601,16 +613,18 @@ macro_rules! tables {
 }
 
 tables! {
+    // registry: rows
+    Command: kesvuot_read_commands,
     Segment: kesvuot_read_segments,
     Section: kesvuot_read_sections,
     Library: kesvuot_read_libraries,
     Build: kesvuot_read_builds,
-    Command: kesvuot_read_commands,
     Symbol: kesvuot_read_symbols,
     u32: kesvuot_read_indirects,
     u64: kesvuot_read_function_starts,
     DataInCode: kesvuot_read_data_in_code,
     Blob: kesvuot_read_blobs,
+    // registry: end
 }
 
 /// The status, and where the name at `strx` in the strings is.

@@ -386,34 +386,36 @@ macro_rules! tables {
 }
 
 tables! {
-    /// `LC_SYMTAB`, `symoff` and `nsyms`: symbols of 16 bytes.
+    // registry: tables
+    /// `symoff` and `nsyms` of `LC_SYMTAB`: `nlist_64` of 16 bytes.
     Symbols = 1,
-    /// `LC_SYMTAB`, `stroff` and `strsize`: the strings of the symbols.
+    /// `stroff` and `strsize` of `LC_SYMTAB`: the strings of the symbols.
     Strings = 2,
-    /// `LC_DYSYMTAB`, `tocoff` and `ntoc`: `dylib_table_of_contents` of 8 bytes.
+    /// `tocoff` and `ntoc` of `LC_DYSYMTAB`: `dylib_table_of_contents` of 8 bytes.
     Contents = 3,
-    /// `LC_DYSYMTAB`, `modtaboff` and `nmodtab`: `dylib_module_64` of 56 bytes.
+    /// `modtaboff` and `nmodtab` of `LC_DYSYMTAB`: `dylib_module_64` of 56 bytes.
     Modules = 4,
-    /// `LC_DYSYMTAB`, `extrefsymoff` and `nextrefsyms`: `dylib_reference` of 4 bytes.
+    /// `extrefsymoff` and `nextrefsyms` of `LC_DYSYMTAB`: `dylib_reference` of 4 bytes.
     References = 5,
-    /// `LC_DYSYMTAB`, `indirectsymoff` and `nindirectsyms`: indirect entries of 4 bytes.
+    /// `indirectsymoff` and `nindirectsyms` of `LC_DYSYMTAB`: indirect entries of 4 bytes.
     Indirects = 6,
-    /// `LC_DYSYMTAB`, `extreloff` and `nextrel`: `relocation_info` of 8 bytes.
+    /// `extreloff` and `nextrel` of `LC_DYSYMTAB`: `relocation_info` of 8 bytes.
     ExternalRelocations = 7,
-    /// `LC_DYSYMTAB`, `locreloff` and `nlocrel`: `relocation_info` of 8 bytes.
+    /// `locreloff` and `nlocrel` of `LC_DYSYMTAB`: `relocation_info` of 8 bytes.
     LocalRelocations = 8,
-    /// `LC_DYLD_INFO` or `LC_DYLD_INFO_ONLY`, `rebase_off` and `rebase_size`: bytes.
+    /// `rebase_off` and `rebase_size` of `LC_DYLD_INFO` or `LC_DYLD_INFO_ONLY`: bytes.
     Rebase = 9,
-    /// The same command, `bind_off` and `bind_size`: bytes.
+    /// `bind_off` and `bind_size` of `LC_DYLD_INFO` or `LC_DYLD_INFO_ONLY`: bytes.
     Bind = 10,
-    /// The same command, `weak_bind_off` and `weak_bind_size`: bytes.
+    /// `weak_bind_off` and `weak_bind_size` of `LC_DYLD_INFO` or `LC_DYLD_INFO_ONLY`: bytes.
     WeakBind = 11,
-    /// The same command, `lazy_bind_off` and `lazy_bind_size`: bytes.
+    /// `lazy_bind_off` and `lazy_bind_size` of `LC_DYLD_INFO` or `LC_DYLD_INFO_ONLY`: bytes.
     LazyBind = 12,
-    /// The same command, `export_off` and `export_size`: bytes.
+    /// `export_off` and `export_size` of `LC_DYLD_INFO` or `LC_DYLD_INFO_ONLY`: bytes.
     Export = 13,
-    /// `LC_ENCRYPTION_INFO_64`, `cryptoff` and `cryptsize`: bytes.
+    /// `cryptoff` and `cryptsize` of `LC_ENCRYPTION_INFO_64`: bytes.
     Encrypted = 14,
+    // registry: end
 }
 
 /// A load command. (`load_command`)

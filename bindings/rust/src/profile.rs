@@ -21,32 +21,36 @@ use crate::ffi;
 #[derive(Clone, Copy, Debug, PartialEq, Eq, PartialOrd, Ord, Hash)]
 #[non_exhaustive]
 pub enum Profile {
-    /// A loader that follows the headers and checks no bounds reads only bytes of the slice. `docs/RULES.md`
-    /// explains the rules.
+    // registry: profiles
+    /// A loader that follows the headers and checks no bounds reads only bytes of the slice. `docs/RULES.md` explains
+    /// the rules.
     Layout = 1,
-    /// Every nonzero byte is accounted for, and no byte belongs to two elements, such as the headers, a section
-    /// or a table. `docs/RULES.md` explains the rules.
+    /// Every nonzero byte is accounted for, and no byte belongs to two elements, such as the headers, a section or a
+    /// table. `docs/RULES.md` explains the rules.
     Strict = 2,
     /// The rules judge where the linked data of an image lies; what the opcodes of `LC_DYLD_INFO` and
-    /// `LC_DYLD_INFO_ONLY`, the table of `LC_DYLD_CHAINED_FIXUPS` and the chains of pointers in the pages ask a
-    /// dynamic loader for; what the image exports; where functions start and data is in code; how a code
-    /// signature is built; what symbols and relocations refer to; where threads begin; and what all other
-    /// commands of `loader.h` hold. `docs/LINKED.md` explains the rules.
+    /// `LC_DYLD_INFO_ONLY`, the table of `LC_DYLD_CHAINED_FIXUPS` and the chains of pointers in the pages ask a dynamic
+    /// loader for; what the image exports; where functions start and data is in code; how a code signature is built;
+    /// what symbols and relocations refer to; where threads begin; and what all other commands of `loader.h` hold.
+    /// `docs/LINKED.md` explains the rules.
     Linked = 3,
-    /// Each image has a code signature; each code directory has the hashes of all bytes before the signature and
-    /// of the blobs in special slots; and each nonzero byte from the signature on is in the signature's header,
-    /// its index or a blob. `docs/SEALED.md` explains the rules. The profile does not say who signed, and it
-    /// reads nothing outside of the file.
+    /// Each image has a code signature; each code directory has the hashes of all bytes before the signature and of the
+    /// blobs in special slots; and each nonzero byte from the signature on is in the signature's header, its index or a
+    /// blob. The profile does not say who signed, and it reads nothing outside of the file. `docs/SEALED.md` explains
+    /// the rules.
     Sealed = 4,
+    // registry: end
 }
 
 impl Profile {
     /// All profiles that this crate knows.
     pub const ALL: &'static [Profile] = &[
+        // registry: names of profiles
         Profile::Layout,
         Profile::Strict,
         Profile::Linked,
         Profile::Sealed,
+        // registry: end
     ];
 
     /// The name of the profile, such as `strict`.

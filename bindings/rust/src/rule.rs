@@ -43,184 +43,174 @@ macro_rules! rules {
 }
 
 rules! {
-    /// The file does not begin as a universal file, or as a 64-bit little-endian image.
+    // registry: rules
+    /// The file begins with the magic number of no format that is read.
     Magic = 1,
-    /// The universal table ends past the file.
+    /// The header or the table of a universal file ends past the end of the file.
     FatTruncated = 2,
-    /// A slice ends past the file.
+    /// A slice ends past the end of the file.
     FatSliceOutside = 3,
-    /// A slice begins in the universal table.
+    /// A slice begins before the end of the table that names it.
     FatSliceInTable = 4,
-    /// 2^`align` does not divide the offset of a slice.
+    /// The offset of a slice is no multiple of its alignment.
     FatAlign = 5,
-    /// A slice shares a byte with an earlier one.
+    /// A slice has a byte in common with an earlier one.
     FatOverlap = 6,
     /// A slice has the architecture of an earlier one.
     FatDuplicate = 7,
-    /// A slice does not begin as an image does.
+    /// A slice begins with the magic number of no image.
     FatSliceMagic = 8,
-    /// No slice is a 64-bit little-endian image.
+    /// A universal file has no 64-bit little-endian slice.
     FatEmpty = 9,
-    /// The image has fewer than 32 bytes.
+    /// The bytes of an image end within its header.
     HeaderTruncated = 10,
-    /// The image has another architecture than its entry in the universal table.
+    /// The header of a slice names another architecture than the table.
     ArchMismatch = 11,
-    /// `filetype` is none of those that are judged.
+    /// The image is of a kind that is not read.
     FileType = 12,
-    /// The load commands end past the image.
+    /// The load commands end past the end of the image.
     CommandsOutside = 13,
-    /// A load command has an impossible `cmdsize`, or is missing.
+    /// There is no whole load command where one is due, or its size is impossible.
     CommandWalk = 14,
-    /// The `cmdsize` of a load command is less than its structure needs.
+    /// A load command is too small for its own fields.
     CommandShort = 15,
-    /// A load command that may appear once appears twice.
+    /// A kind of load command that an image may have only once is repeated.
     CommandRepeated = 16,
-    /// A library has no `LC_ID_DYLIB`, or an image of another kind has one.
+    /// A library has no name of its own, or an executable or a bundle has one.
     DylibId = 17,
-    /// A name of a load command begins in its fields, or does not end in the command.
+    /// A name begins within the fields of its command, or does not end in the command.
     Name = 18,
-    /// The addresses of a segment pass 2^64.
+    /// The addresses of a segment end past 2^64.
     SegmentAddress = 19,
-    /// A segment has more bytes in the file than addresses.
+    /// A segment has more bytes in the file than in memory.
     SegmentSize = 20,
-    /// The bytes of a segment end past the image.
+    /// The bytes of a segment end past the end of the image.
     SegmentFile = 21,
-    /// A segment shares an address with an earlier one.
+    /// A segment has an address in common with an earlier one.
     SegmentOverlap = 22,
-    /// A section has addresses outside its segment.
+    /// A section has an address outside its segment.
     SectionAddress = 23,
-    /// The bytes of a section are not those that its addresses have in the segment, or end past the
-    /// image.
+    /// The bytes of a section are not where its segment puts them.
     SectionFile = 24,
-    /// The relocations of a section end past the image.
+    /// The relocations of a section end past the end of the image.
     SectionRelocs = 25,
-    /// A table of a load command ends past the image.
+    /// A table that a load command names ends past the end of the image.
     TableRange = 26,
-    /// A group of `LC_DYSYMTAB` ends past the symbols.
+    /// A group of symbols ends past the end of the symbol table.
     SymbolGroup = 27,
-    /// The name of a symbol does not end in the string table.
+    /// The name of a symbol does not end within the string table.
     SymbolName = 28,
-    /// A symbol is in a section that the image does not have.
+    /// A symbol is defined in a section that the image does not have.
     SymbolSection = 29,
-    /// An indirect entry is the index of no symbol.
+    /// An indirect entry names no symbol of the table.
     IndirectIndex = 30,
-    /// The entry is not at a byte of the file in an executable segment.
+    /// The entry point that `LC_MAIN` names is at no executable byte of the file.
     Entry = 31,
-    /// Strictly: a byte that is not zero is in no slice of a universal file, nor in its table.
+    /// Strictly: a byte of a universal file that is not zero lies in no slice, after the table.
     FatStrayByte = 32,
-    /// Strictly: the last load command does not end where the header says.
+    /// Strictly: the last load command does not end where the header says that the commands end.
     CommandsEnd = 33,
-    /// Strictly: no mapped segment has the header and the load commands.
+    /// Strictly: no segment has the header and all load commands.
     HeaderSegment = 34,
-    /// Strictly: a segment shares a byte of the file with an earlier one.
+    /// Strictly: a segment has a byte of the file in common with an earlier one.
     SegmentFileOverlap = 35,
-    /// Strictly: a section, its relocations or a table shares a byte with an earlier one, or with the
-    /// headers. Or the data of a command that `docs/RULES.md` does not list ends past the image.
+    /// Strictly: a part of the image that a structure describes has a byte in common with an earlier one.
     ElementOverlap = 36,
-    /// Strictly: a byte that is not zero is in no segment.
+    /// Strictly: a byte of an image that is not zero lies in no segment.
     StrayByte = 37,
-    /// Strictly: a nonempty encrypted range begins in the headers, or is not in the file bytes of one
-    /// segment.
+    /// Strictly: what is encrypted is not bytes of one segment, past the header and the load commands.
     EncryptedRange = 38,
-    /// Strictly: a nonzero byte of a listed load command is not in its structure, its records or its
-    /// name.
+    /// Strictly: a byte of a load command that is not zero lies past its fields, its records and its name.
     CommandSlack = 39,
-    /// Strictly: a byte of a segment that is neither zero nor a NOP of code is in no element: not in the
-    /// headers, a section, its relocations or a table.
+    /// Strictly: a byte of a segment that is neither zero nor padding of code lies in no part that a structure
+    /// describes.
     UnclaimedByte = 40,
     /// Linked: a command for linked data is of a kind of an earlier one.
     TableRepeated = 41,
-    /// Linked: a command has variants of functions, or their fixups.
+    /// Linked: a command has variants of functions, by which loaders write, and which no rule reads.
     FunctionVariants = 42,
-    /// Linked: a table is not in a `__LINKEDIT` that can be read and not written, or is encrypted.
+    /// Linked: a table of linked data is not where a loader finds it, or can change in memory.
     TableHome = 43,
-    /// Linked: there is a table, and the headers cannot be read in memory, or can be written, or are not
-    /// where a segment named `__TEXT` is.
+    /// Linked: there is linked data, and the header cannot be read in memory, or can be written, or is not where
+    /// loaders take the segment named `__TEXT` to be.
     HeaderHome = 44,
-    /// Linked: an opcode of the rebase stream is not known, or an operand of it is wrong.
+    /// Linked: an opcode of the rebases is not known, or its operands do not end.
     RebaseOpcode = 45,
-    /// Linked: a rebase is not in the file bytes of a writable segment.
+    /// Linked: a rebase is not in the bytes of a segment that can be written.
     RebaseSlot = 46,
-    /// Linked: there are more rebases than pointers in the writable segments.
+    /// Linked: there are more rebases than pointers that can be written.
     RebaseTotal = 47,
-    /// Linked: an opcode of a bind stream is not known, or an operand of it is wrong.
+    /// Linked: an opcode of the binds is not known, or its operands do not end.
     BindOpcode = 48,
-    /// Linked: an opcode of a bind stream names a library that is not there.
+    /// Linked: a bind is to a library that the image does not load.
     BindLibrary = 49,
     /// Linked: a bind has no name.
     BindSymbol = 50,
-    /// Linked: a bind is not in the file bytes of a writable segment.
+    /// Linked: a bind is not in the bytes of a segment that can be written.
     BindSlot = 51,
-    /// Linked: a bind stream has more binds than there are pointers in the writable segments.
+    /// Linked: a stream has more binds than there are pointers that can be written.
     BindTotal = 52,
-    /// Linked: the names that a bind stream looks up have more bytes than the stream.
+    /// Linked: the names that the binds of a stream look up have more bytes than the stream.
     BindNames = 53,
-    /// Linked: a command names no table of chained fixups; or their header is not all in the table, or is
-    /// of no known version or format.
+    /// Linked: the header of the chained fixups is not there, is cut, or is of a version or a format that is not known.
     ChainHeader = 54,
-    /// Linked: the table of chained fixups has entries for more segments than there are; or the
-    /// starts of a segment's chains are not all in it, are of no known format, are none of a writable
-    /// segment, or begin before those of an earlier segment end.
+    /// Linked: the chains of a segment do not begin as the format says, or where a loader cannot write.
     ChainStarts = 55,
-    /// Linked: the imports of chained fixups, or the name of one, do not end in their table.
+    /// Linked: the imports of the chained fixups end past their table, or the name of one does not end in it.
     ChainImports = 56,
-    /// Linked: the names of the imports have more bytes than the table of chained fixups.
+    /// Linked: the names of the imports have more bytes than the table.
     ChainTotal = 57,
-    /// Linked: an import of chained fixups is of a library that is not there.
+    /// Linked: an import is from a library that the image does not load.
     ChainLibrary = 58,
-    /// Linked: a pointer of a chain ends past its page or the bytes of its segment, begins in the one
-    /// before it, or cannot be written as it is in the file.
+    /// Linked: a pointer of a chain does not end in its page and in the file bytes of its segment, or the next one
+    /// begins in it, or a kernel decrypts the segment.
     ChainSlot = 59,
     /// Linked: a pointer of a chain binds an import that is not there.
     ChainBind = 60,
-    /// Linked: a node of the export trie does not end in the table.
+    /// Linked: a node of the export trie does not end in it.
     ExportNode = 64,
-    /// Linked: the nodes of the export trie, each as often as it is met, have more bytes than the table.
+    /// Linked: the nodes of the export trie, each as often as it is met, have more bytes than it.
     ExportTotal = 65,
-    /// Linked: an export does not end where its node says, or has flags that are not known.
+    /// Linked: what a node of the export trie says of a symbol does not end where it should, or is of no known kind.
     ExportTerminal = 66,
-    /// Linked: an export is of a library that is not there.
+    /// Linked: an export is of a library that the image does not load.
     ExportLibrary = 67,
-    /// Linked: the address of an export, or its resolver, is in no segment.
+    /// Linked: an export has an address in no segment.
     ExportAddress = 68,
     /// Linked: a number of the function starts does not end, or a byte after the last one is not 0.
     FunctionNumber = 61,
     /// Linked: a function does not start in the file bytes of a mapped segment.
     FunctionStart = 62,
-    /// Linked: an entry of the data in code is cut, of a kind that is not known, or not in the file bytes
-    /// of an executable segment.
+    /// Linked: an entry of the data in code is cut, of a kind that is not known, or not in the file bytes of an
+    /// executable segment.
     DataInCode = 63,
-    /// Linked: the code signature is cut, is no superblob, or has a blob that is not inside of it or that
-    /// begins before the one before ends.
+    /// Linked: a blob of the code signature is not where it can be read, or does not begin as its magic number says.
     SignatureBlob = 69,
-    /// Linked: the code signature has no code directory, or one that is cut or of no known form, or that
-    /// has a hash, an identifier or a team which does not end in it, or too many or too few hashes.
+    /// Linked: a code directory is missing, cut, or of no known form, or something that it names is not inside of it.
     SignatureDirectory = 70,
-    /// Linked: the hashes of a code directory are not of all bytes before the signature.
+    /// Linked: a code directory does not cover the bytes up to the signature.
     SignatureWhole = 71,
-    /// Linked: an undefined symbol is of a library that is not there.
+    /// Linked: a symbol is of a library that the image does not load.
     SymbolLibrary = 72,
-    /// Linked: the address of a symbol that a section defines is in no segment.
+    /// Linked: a symbol that a section defines has an address in no segment.
     SymbolValue = 73,
-    /// Linked: the other name of an indirect symbol does not end in the string table.
+    /// Linked: the name that an indirect symbol stands in for does not end within the string table.
     SymbolIndirect = 74,
-    /// Linked: a relocation is of a symbol or a section that is not there, or a loader's is of no pointer.
+    /// Linked: a relocation is of no symbol or section of the image, or of no pointer that can be written.
     Relocation = 75,
-    /// Linked: a second command for a thread; or the states of one do not end with it, have no registers
-    /// that are known, or name an entry that is not at a byte of the file in an executable segment.
+    /// Linked: the state of a thread is cut or not known, or its entry point is at no executable byte of the file.
     Thread = 76,
-    /// Linked: a load command has no place in such an image; or a name, a range or an address in it is
-    /// wrong, or a byte past what it holds is not 0.
+    /// Linked: what a load command holds is not inside of it or of the image, or the command has no place in it.
     CommandContent = 77,
-    /// Sealed: an image has no code signature with a code directory in slot 0.
+    /// Sealed: an image has no code signature with a code directory.
     SignatureMissing = 78,
     /// Sealed: a code directory is in the slot of an earlier one.
     DirectoryRepeated = 79,
-    /// Sealed: from the code signature on, a byte that is not 0 is in neither its header and index nor a blob.
+    /// Sealed: a byte of the code signature that is not zero lies in no part of it.
     SignatureSlack = 80,
-    /// Sealed: the hash of a page, or of a blob in a special slot, is not the one in a code directory, or
-    /// the directory has no such slot.
+    /// Sealed: the hash of a page or of a blob is not the one in a code directory.
     SignatureHash = 81,
+    // registry: end
 }
 
 impl Rule {
