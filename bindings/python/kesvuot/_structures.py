@@ -5,9 +5,6 @@ from __future__ import annotations
 
 from typing import Dict, List, NamedTuple, Tuple
 
-from ._names import LIBRARIES
-from .constants import LC_LOAD_DYLINKER, LC_RPATH
-
 
 class Field(NamedTuple):
     """A field: its place in the structure, and how many bytes it has."""
@@ -75,13 +72,23 @@ BIG_ENDIAN = frozenset(("fat_header", "fat_arch", "fat_arch_64", "CS_SuperBlob",
 
 # The structure of each command that docs/RULES.md lists, and of those others that have data.
 LISTED: Dict[int, str] = {
-    0x2: "symtab_command", 0xB: "dysymtab_command", **dict.fromkeys(LIBRARIES, "dylib_command"),
-    **dict.fromkeys((LC_LOAD_DYLINKER, 0xF, 0x27), "dylinker_command"), LC_RPATH: "rpath_command",
-    0x19: "segment_command_64", 0x1B: "uuid_command",
-    **dict.fromkeys((0x1D, 0x1E, 0x26, 0x29, 0x2B, 0x2E, 0x8000_0033, 0x8000_0034), "linkedit_data_command"),
-    **dict.fromkeys((0x22, 0x8000_0022), "dyld_info_command"), 0x2C: "encryption_info_command_64",
-    0x31: "note_command", 0x32: "build_version_command", 0x8000_0028: "entry_point_command"}
-UNLISTED = {0x16: "twolevel_hints_command", **dict.fromkeys((0x36, 0x37, 0x38), "linkedit_data_command")}
+    # registry: listed
+    0x2: "symtab_command", 0xb: "dysymtab_command", 0xc: "dylib_command", 0xd: "dylib_command", 0xe: "dylinker_command",
+    0xf: "dylinker_command", 0x19: "segment_command_64", 0x1b: "uuid_command", 0x1d: "linkedit_data_command",
+    0x1e: "linkedit_data_command", 0x20: "dylib_command", 0x22: "dyld_info_command", 0x26: "linkedit_data_command",
+    0x27: "dylinker_command", 0x29: "linkedit_data_command", 0x2b: "linkedit_data_command",
+    0x2c: "encryption_info_command_64", 0x2e: "linkedit_data_command", 0x31: "note_command",
+    0x32: "build_version_command", 0x80000018: "dylib_command", 0x8000001c: "rpath_command",
+    0x8000001f: "dylib_command", 0x80000022: "dyld_info_command", 0x80000023: "dylib_command",
+    0x80000028: "entry_point_command", 0x80000033: "linkedit_data_command", 0x80000034: "linkedit_data_command",
+    # registry: end
+}
+UNLISTED: Dict[int, str] = {
+    # registry: unlisted
+    0x16: "twolevel_hints_command", 0x36: "linkedit_data_command", 0x37: "linkedit_data_command",
+    0x38: "linkedit_data_command",
+    # registry: end
+}
 
 
 def size_of(structure: str) -> int:
