@@ -934,27 +934,6 @@ uint32_t kesvuot_find_address(const void *file, size_t size, const struct kesvuo
 #define KESVUOT_INDIRECT_SYMBOL_LOCAL 0x80000000
 #define KESVUOT_INDIRECT_SYMBOL_ABS 0x40000000
 
-/* The type of a symbol: two masks, and the value of the second one of a section's symbol. (mach-o/nlist.h) */
-#define KESVUOT_N_STAB 0xe0
-#define KESVUOT_N_TYPE 0xe
-#define KESVUOT_N_SECT 0xe
-
-/* The processors of the 64-bit architectures. (mach/machine.h) */
-#define KESVUOT_CPU_TYPE_X86_64 0x1000007
-#define KESVUOT_CPU_TYPE_ARM64 0x100000c
-#define KESVUOT_CPU_SUBTYPE_MASK 0xff000000
-#define KESVUOT_CPU_SUBTYPE_X86_64_ALL 3
-#define KESVUOT_CPU_SUBTYPE_X86_64_H 8
-#define KESVUOT_CPU_SUBTYPE_ARM64_ALL 0
-#define KESVUOT_CPU_SUBTYPE_ARM64E 2
-
-/* The kinds of data in code. (mach-o/loader.h) */
-#define KESVUOT_DICE_KIND_DATA 1
-#define KESVUOT_DICE_KIND_JUMP_TABLE8 2
-#define KESVUOT_DICE_KIND_JUMP_TABLE16 3
-#define KESVUOT_DICE_KIND_JUMP_TABLE32 4
-#define KESVUOT_DICE_KIND_ABS_JUMP_TABLE32 5
-
 /* The flags of an export: a mask, its values, and bits. (mach-o/loader.h) */
 #define KESVUOT_EXPORT_SYMBOL_FLAGS_KIND_MASK 0x3
 #define KESVUOT_EXPORT_SYMBOL_FLAGS_KIND_REGULAR 0x0
@@ -965,8 +944,34 @@ uint32_t kesvuot_find_address(const void *file, size_t size, const struct kesvuo
 #define KESVUOT_EXPORT_SYMBOL_FLAGS_STUB_AND_RESOLVER 0x10
 #define KESVUOT_EXPORT_SYMBOL_FLAGS_STATIC_RESOLVER 0x20
 
+/* The kinds of data in code. (mach-o/loader.h) */
+#define KESVUOT_DICE_KIND_DATA 1
+#define KESVUOT_DICE_KIND_JUMP_TABLE8 2
+#define KESVUOT_DICE_KIND_JUMP_TABLE16 3
+#define KESVUOT_DICE_KIND_JUMP_TABLE32 4
+#define KESVUOT_DICE_KIND_ABS_JUMP_TABLE32 5
+
+/* The processors of the 64-bit architectures. (mach/machine.h) */
+#define KESVUOT_CPU_TYPE_X86_64 0x1000007
+#define KESVUOT_CPU_TYPE_ARM64 0x100000c
+#define KESVUOT_CPU_SUBTYPE_MASK 0xff000000
+#define KESVUOT_CPU_SUBTYPE_X86_64_ALL 3
+#define KESVUOT_CPU_SUBTYPE_X86_64_H 8
+#define KESVUOT_CPU_SUBTYPE_ARM64_ALL 0
+#define KESVUOT_CPU_SUBTYPE_ARM64E 2
+
+/* The type of a symbol: two masks, and the value of the second one of a section's symbol. (mach-o/nlist.h) */
+#define KESVUOT_N_STAB 0xe0
+#define KESVUOT_N_TYPE 0xe
+#define KESVUOT_N_SECT 0xe
+
+/* The bits of a protection. (mach/vm_prot.h) */
+#define KESVUOT_VM_PROT_READ 1
+#define KESVUOT_VM_PROT_WRITE 2
+#define KESVUOT_VM_PROT_EXECUTE 4
+
 /* Code signatures: slots of code directories, and types of hashes. (kern/cs_blobs.h) */
-#define KESVUOT_CSSLOT_CODEDIRECTORY 0x0
+#define KESVUOT_CSSLOT_CODEDIRECTORY 0
 #define KESVUOT_CSSLOT_ALTERNATE_CODEDIRECTORIES 0x1000
 #define KESVUOT_CS_HASHTYPE_SHA1 1
 #define KESVUOT_CS_HASHTYPE_SHA256 2
@@ -975,11 +980,6 @@ uint32_t kesvuot_find_address(const void *file, size_t size, const struct kesvuo
 
 /* The size in bytes of a cdhash. (kern/cs_blobs.h) */
 #define KESVUOT_CS_CDHASH_LEN 20
-
-/* The bits of a protection. (mach/vm_prot.h) */
-#define KESVUOT_VM_PROT_READ 1
-#define KESVUOT_VM_PROT_WRITE 2
-#define KESVUOT_VM_PROT_EXECUTE 4
 /* registry: end */
 
 /* The layout of the structures in the library, which is for 64-bit machines. C99 and C++98 cannot check it. */

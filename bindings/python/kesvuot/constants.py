@@ -90,27 +90,6 @@ S_THREAD_LOCAL_ZEROFILL = 0x12
 INDIRECT_SYMBOL_LOCAL = 0x80000000
 INDIRECT_SYMBOL_ABS = 0x40000000
 
-# The type of a symbol: two masks, and the value of the second one of a section's symbol. (mach-o/nlist.h)
-N_STAB = 0xe0
-N_TYPE = 0xe
-N_SECT = 0xe
-
-# The processors of the 64-bit architectures. (mach/machine.h)
-CPU_TYPE_X86_64 = 0x1000007
-CPU_TYPE_ARM64 = 0x100000c
-CPU_SUBTYPE_MASK = 0xff000000
-CPU_SUBTYPE_X86_64_ALL = 3
-CPU_SUBTYPE_X86_64_H = 8
-CPU_SUBTYPE_ARM64_ALL = 0
-CPU_SUBTYPE_ARM64E = 2
-
-# The kinds of data in code. (mach-o/loader.h)
-DICE_KIND_DATA = 1
-DICE_KIND_JUMP_TABLE8 = 2
-DICE_KIND_JUMP_TABLE16 = 3
-DICE_KIND_JUMP_TABLE32 = 4
-DICE_KIND_ABS_JUMP_TABLE32 = 5
-
 # The flags of an export: a mask, its values, and bits. (mach-o/loader.h)
 EXPORT_SYMBOL_FLAGS_KIND_MASK = 0x3
 EXPORT_SYMBOL_FLAGS_KIND_REGULAR = 0x0
@@ -121,8 +100,34 @@ EXPORT_SYMBOL_FLAGS_REEXPORT = 0x8
 EXPORT_SYMBOL_FLAGS_STUB_AND_RESOLVER = 0x10
 EXPORT_SYMBOL_FLAGS_STATIC_RESOLVER = 0x20
 
+# The kinds of data in code. (mach-o/loader.h)
+DICE_KIND_DATA = 1
+DICE_KIND_JUMP_TABLE8 = 2
+DICE_KIND_JUMP_TABLE16 = 3
+DICE_KIND_JUMP_TABLE32 = 4
+DICE_KIND_ABS_JUMP_TABLE32 = 5
+
+# The processors of the 64-bit architectures. (mach/machine.h)
+CPU_TYPE_X86_64 = 0x1000007
+CPU_TYPE_ARM64 = 0x100000c
+CPU_SUBTYPE_MASK = 0xff000000
+CPU_SUBTYPE_X86_64_ALL = 3
+CPU_SUBTYPE_X86_64_H = 8
+CPU_SUBTYPE_ARM64_ALL = 0
+CPU_SUBTYPE_ARM64E = 2
+
+# The type of a symbol: two masks, and the value of the second one of a section's symbol. (mach-o/nlist.h)
+N_STAB = 0xe0
+N_TYPE = 0xe
+N_SECT = 0xe
+
+# The bits of a protection. (mach/vm_prot.h)
+VM_PROT_READ = 1
+VM_PROT_WRITE = 2
+VM_PROT_EXECUTE = 4
+
 # Code signatures: slots of code directories, and types of hashes. (kern/cs_blobs.h)
-CSSLOT_CODEDIRECTORY = 0x0
+CSSLOT_CODEDIRECTORY = 0
 CSSLOT_ALTERNATE_CODEDIRECTORIES = 0x1000
 CS_HASHTYPE_SHA1 = 1
 CS_HASHTYPE_SHA256 = 2
@@ -131,9 +136,4 @@ CS_HASHTYPE_SHA384 = 4
 
 # The size in bytes of a cdhash. (kern/cs_blobs.h)
 CS_CDHASH_LEN = 20
-
-# The bits of a protection. (mach/vm_prot.h)
-VM_PROT_READ = 1
-VM_PROT_WRITE = 2
-VM_PROT_EXECUTE = 4
 # registry: end

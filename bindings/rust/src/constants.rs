@@ -92,27 +92,6 @@ pub const S_THREAD_LOCAL_ZEROFILL: u32 = 0x12;
 pub const INDIRECT_SYMBOL_LOCAL: u32 = 0x8000_0000;
 pub const INDIRECT_SYMBOL_ABS: u32 = 0x4000_0000;
 
-// The type of a symbol: two masks, and the value of the second one of a section's symbol. (mach-o/nlist.h)
-pub const N_STAB: u8 = 0xe0;
-pub const N_TYPE: u8 = 0xe;
-pub const N_SECT: u8 = 0xe;
-
-// The processors of the 64-bit architectures. (mach/machine.h)
-pub const CPU_TYPE_X86_64: u32 = 0x100_0007;
-pub const CPU_TYPE_ARM64: u32 = 0x100_000c;
-pub const CPU_SUBTYPE_MASK: u32 = 0xff00_0000;
-pub const CPU_SUBTYPE_X86_64_ALL: u32 = 3;
-pub const CPU_SUBTYPE_X86_64_H: u32 = 8;
-pub const CPU_SUBTYPE_ARM64_ALL: u32 = 0;
-pub const CPU_SUBTYPE_ARM64E: u32 = 2;
-
-// The kinds of data in code. (mach-o/loader.h)
-pub const DICE_KIND_DATA: u16 = 1;
-pub const DICE_KIND_JUMP_TABLE8: u16 = 2;
-pub const DICE_KIND_JUMP_TABLE16: u16 = 3;
-pub const DICE_KIND_JUMP_TABLE32: u16 = 4;
-pub const DICE_KIND_ABS_JUMP_TABLE32: u16 = 5;
-
 // The flags of an export: a mask, its values, and bits. (mach-o/loader.h)
 pub const EXPORT_SYMBOL_FLAGS_KIND_MASK: u64 = 0x3;
 pub const EXPORT_SYMBOL_FLAGS_KIND_REGULAR: u64 = 0x0;
@@ -123,8 +102,34 @@ pub const EXPORT_SYMBOL_FLAGS_REEXPORT: u64 = 0x8;
 pub const EXPORT_SYMBOL_FLAGS_STUB_AND_RESOLVER: u64 = 0x10;
 pub const EXPORT_SYMBOL_FLAGS_STATIC_RESOLVER: u64 = 0x20;
 
+// The kinds of data in code. (mach-o/loader.h)
+pub const DICE_KIND_DATA: u16 = 1;
+pub const DICE_KIND_JUMP_TABLE8: u16 = 2;
+pub const DICE_KIND_JUMP_TABLE16: u16 = 3;
+pub const DICE_KIND_JUMP_TABLE32: u16 = 4;
+pub const DICE_KIND_ABS_JUMP_TABLE32: u16 = 5;
+
+// The processors of the 64-bit architectures. (mach/machine.h)
+pub const CPU_TYPE_X86_64: u32 = 0x100_0007;
+pub const CPU_TYPE_ARM64: u32 = 0x100_000c;
+pub const CPU_SUBTYPE_MASK: u32 = 0xff00_0000;
+pub const CPU_SUBTYPE_X86_64_ALL: u32 = 3;
+pub const CPU_SUBTYPE_X86_64_H: u32 = 8;
+pub const CPU_SUBTYPE_ARM64_ALL: u32 = 0;
+pub const CPU_SUBTYPE_ARM64E: u32 = 2;
+
+// The type of a symbol: two masks, and the value of the second one of a section's symbol. (mach-o/nlist.h)
+pub const N_STAB: u8 = 0xe0;
+pub const N_TYPE: u8 = 0xe;
+pub const N_SECT: u8 = 0xe;
+
+// The bits of a protection. (mach/vm_prot.h)
+pub const VM_PROT_READ: u32 = 1;
+pub const VM_PROT_WRITE: u32 = 2;
+pub const VM_PROT_EXECUTE: u32 = 4;
+
 // Code signatures: slots of code directories, and types of hashes. (kern/cs_blobs.h)
-pub const CSSLOT_CODEDIRECTORY: u32 = 0x0;
+pub const CSSLOT_CODEDIRECTORY: u32 = 0;
 pub const CSSLOT_ALTERNATE_CODEDIRECTORIES: u32 = 0x1000;
 pub const CS_HASHTYPE_SHA1: u8 = 1;
 pub const CS_HASHTYPE_SHA256: u8 = 2;
@@ -133,9 +138,4 @@ pub const CS_HASHTYPE_SHA384: u8 = 4;
 
 // The size in bytes of a cdhash. (kern/cs_blobs.h)
 pub const CS_CDHASH_LEN: u64 = 20;
-
-// The bits of a protection. (mach/vm_prot.h)
-pub const VM_PROT_READ: u32 = 1;
-pub const VM_PROT_WRITE: u32 = 2;
-pub const VM_PROT_EXECUTE: u32 = 4;
 // registry: end

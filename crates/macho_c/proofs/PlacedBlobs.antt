@@ -8,7 +8,7 @@ use Rattle.macho_fields.specs.Field.{part}
 use Rattle.macho_fields.specs.Symbol.{IsOutside}
 use Rattle.macho_fields.specs.declared.header.loader.TheConstants as loader
 use Rattle.macho_signature.specs.Superblobs.{big_word, superblob_at, blob_count, entry_offset, blob_at, blob_end, least_offset, has_superblob, is_placed, HasNoSuperblob, IsMisplacedBlob, AreGoodBlobs}
-use Rattle.macho_signature.specs.declared.cs_blobs.TheConstants as cs
+use Rattle.macho_fields.specs.declared.header.cs_blobs.TheConstants as cs
 use Rattle.macho_signature.specs.declared.superblob.Blob.{Blob}
 use Rattle.macho_signature.specs.declared.superblob.Superblob.{Superblob}
 use Rattle.macho_c.specs.Blobs.{placed_blobs, blobs_from, blob_row, blobs_left, IsFirstPlaced, HasAllBlobs}

@@ -6,13 +6,13 @@ ghost use Rattle.macho_rows.specs.Cursor.{start, begun, IsBatch};
 ghost use Rattle.macho_c.specs.DataInCode.{entry_row, first_entry, entries_left, HasAllEntries};
 ghost use Rattle.macho_rows.specs.Image.{image_in, ShowsUnbroken};
 
-use macho_fields::header::loader::LC_DATA_IN_CODE;
+use macho_fields::header::loader::{DATA_IN_CODE_ENTRY_SIZE, LC_DATA_IN_CODE};
 use macho_rows::cursor::KesvuotCursor;
 use macho_rows::image::KesvuotImage;
 use macho_rows::linkedit::named_data;
 use macho_rows::span::{Held, KesvuotSpan};
 use macho_rows::table::{Table, fill};
-use macho_tables::data_in_code::{DATA_IN_CODE_ENTRY_SIZE, DataInCodeEntry};
+use macho_tables::data_in_code::DataInCodeEntry;
 
 /// Data in code. (`data_in_code_entry`)
 #[repr(C)]

@@ -13,10 +13,11 @@ ghost use Rattle.macho_c.specs.Exports.{from_base, address_of as address_of_of, 
 ghost use Rattle.macho_rows.specs.Image.{image_in, ShowsUnbroken};
 
 use crate::export_trie::export_trie;
-use macho_exports::export_trie::{
-    EXPORT_SYMBOL_FLAGS_KIND_ABSOLUTE, EXPORT_SYMBOL_FLAGS_KIND_MASK, Export, Target, find_export,
-};
+use macho_exports::export_trie::{Export, Target, find_export};
 use macho_fields::Span;
+use macho_fields::header::loader::{
+    EXPORT_SYMBOL_FLAGS_KIND_ABSOLUTE, EXPORT_SYMBOL_FLAGS_KIND_MASK,
+};
 use macho_rows::image::KesvuotImage;
 use macho_rows::span::{Held, KesvuotSpan, NO_SPAN};
 use macho_rows::status::{NONE, OK};

@@ -16,7 +16,7 @@ use Rattle.macho_tables.specs.Fields.{half}
 use Rattle.macho_chains.specs.declared.chain_header.ChainHeader.{ChainHeader}
 use Rattle.macho_chains.specs.declared.chain_header.ImportFormat.{ImportFormat}
 use Rattle.macho_chains.specs.declared.chain_starts.SegmentStarts.{SegmentStarts}
-use Rattle.macho_chains.specs.declared.fixup_chains.TheConstants as chained
+use Rattle.macho_fields.specs.declared.header.fixup_chains.TheConstants as chained
 use Rattle.macho_chains.proofs.UnbrokenStarts.{AreReadAt}
 
 -- the number in the bytes from place i on, the lowest first

@@ -15,7 +15,7 @@ use Rattle.macho_chains.specs.declared.chain_header.ChainHeader.{ChainHeader}
 use Rattle.macho_chains.specs.declared.chain_pointers.ChainPointer.{ChainPointer}
 use Rattle.macho_chains.specs.declared.chain_starts.PointerFormat.{PointerFormat}
 use Rattle.macho_chains.specs.declared.chain_starts.SegmentStarts.{SegmentStarts}
-use Rattle.macho_chains.specs.declared.fixup_chains.TheConstants as chained
+use Rattle.macho_fields.specs.declared.header.fixup_chains.TheConstants as chained
 use Rattle.macho_chains.proofs.ChainCounts.{HasMoved, moved_segment, moved_page, moved_pointer, moved_few}
 use Rattle.macho_chains.proofs.ChainFresh.{room_whole}
 use Rattle.macho_chains.proofs.ChainMemory.{long_same}

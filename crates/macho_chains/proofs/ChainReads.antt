@@ -7,7 +7,7 @@ use Rattle.macho_chains.specs.ChainStarts.{seg_info_offset, entry_offset, starts
 use Rattle.macho_chains.specs.declared.chain_header.ChainHeader.{ChainHeader}
 use Rattle.macho_chains.specs.declared.chain_starts.PointerFormat.{PointerFormat}
 use Rattle.macho_chains.specs.declared.chain_starts.SegmentStarts.{SegmentStarts}
-use Rattle.macho_chains.specs.declared.fixup_chains.TheConstants as chained
+use Rattle.macho_fields.specs.declared.header.fixup_chains.TheConstants as chained
 use Rattle.macho_chains.proofs.ChainMemory.{count_same, entry_same, no_pages, starts_same, pages_same, format_same, first_none, first_some}
 use Rattle.macho_chains.proofs.UnbrokenChains.{AreGoodChains}
 use Rattle.macho_chains.proofs.UnbrokenStarts.{entries, AreReadAt, counted, entries_inside, starts_there, has_entry, its_fields}

@@ -22,7 +22,7 @@ use Rattle.macho_tables.specs.Segments.{is_protected, is_writable, IsLinkedit}
 use Rattle.macho_chains.specs.declared.chain_header.ChainHeader.{ChainHeader}
 use Rattle.macho_chains.specs.declared.chain_pointers.ChainPointer.{ChainPointer}
 use Rattle.macho_chains.specs.declared.chain_starts.PointerFormat.{PointerFormat}
-use Rattle.macho_chains.specs.declared.fixup_chains.TheConstants as chained
+use Rattle.macho_fields.specs.declared.header.fixup_chains.TheConstants as chained
 use Rattle.macho_tables.specs.declared.limits.TheConstants as size
 use Rattle.macho_spans.specs.Span.{Covers}
 

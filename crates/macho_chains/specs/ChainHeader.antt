@@ -6,7 +6,7 @@ use Rattle.macho_fields.specs.Image.{word}
 use Rattle.macho_chains.specs.declared.chain_header.ChainHeader.{ChainHeader}
 use Rattle.macho_chains.specs.declared.chain_header.ImportFormat.{ImportFormat}
 use Rattle.macho_chains.specs.declared.chain_header.ImportFormat.TheVariants as format
-use Rattle.macho_chains.specs.declared.fixup_chains.TheConstants as chained
+use Rattle.macho_fields.specs.declared.header.fixup_chains.TheConstants as chained
 
 -- imports_format
 abbrev pub import_format : ℕ → Option ImportFormat

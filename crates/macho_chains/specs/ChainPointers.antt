@@ -18,7 +18,7 @@ use Rattle.macho_chains.specs.declared.chain_pointers.PointerBits.{PointerBits}
 use Rattle.macho_chains.specs.declared.chain_starts.PointerFormat.{PointerFormat}
 use Rattle.macho_chains.specs.declared.chain_starts.PointerFormat.TheVariants as format
 use Rattle.macho_chains.specs.declared.chain_starts.SegmentStarts.{SegmentStarts}
-use Rattle.macho_chains.specs.declared.fixup_chains.TheConstants as chained
+use Rattle.macho_fields.specs.declared.header.fixup_chains.TheConstants as chained
 use Rattle.macho_tables.specs.declared.limits.TheConstants as size
 
 -- The bits of a pointer: from which on they are `next`, which these are then, how many bytes a step of next

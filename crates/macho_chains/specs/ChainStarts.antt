@@ -13,7 +13,7 @@ use Rattle.macho_chains.specs.declared.chain_header.ChainHeader.{ChainHeader}
 use Rattle.macho_chains.specs.declared.chain_starts.PointerFormat.{PointerFormat}
 use Rattle.macho_chains.specs.declared.chain_starts.PointerFormat.TheVariants as format
 use Rattle.macho_chains.specs.declared.chain_starts.SegmentStarts.{SegmentStarts}
-use Rattle.macho_chains.specs.declared.fixup_chains.TheConstants as chained
+use Rattle.macho_fields.specs.declared.header.fixup_chains.TheConstants as chained
 
 -- pointer_format
 abbrev pub pointer_format : ℕ → Option PointerFormat

@@ -1,4 +1,3 @@
-pub mod FixupChains
 pub mod ChainHeader
 pub mod ChainStarts
 pub mod ChainImports

@@ -4,11 +4,11 @@ ghost use Rattle.std.specs.Prelude.{◌≡◌, ◌≤◌, length};
 ghost use Rattle.macho_fields.specs.Bytes.{bytes_of};
 ghost use Rattle.macho_chains.specs.ChainHeader.{is_known as is_known_of};
 
-use crate::fixup_chains::{
+use macho_fields::Bytes;
+use macho_fields::header::fixup_chains::{
     DYLD_CHAINED_FIXUPS_HEADER_SIZE, DYLD_CHAINED_IMPORT, DYLD_CHAINED_IMPORT_ADDEND,
     DYLD_CHAINED_IMPORT_ADDEND64,
 };
-use macho_fields::Bytes;
 use macho_tables::fields::word_at;
 
 // The version of the format.

@@ -15,7 +15,7 @@ use crate::chain_header::ChainHeader;
 use crate::chain_pointers::ChainPointer;
 use crate::chain_starts::{SegmentStarts, has_bad_entries};
 use crate::chains::ChainedFixups;
-use crate::fixup_chains::{
+use macho_fields::header::fixup_chains::{
     DYLD_CHAINED_PTR_START_NONE, DYLD_CHAINED_STARTS_IN_SEGMENT_SIZE, PAGE_START_SIZE,
     SEG_INFO_OFFSET_SIZE,
 };

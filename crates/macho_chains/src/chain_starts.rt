@@ -11,7 +11,7 @@ ghost use Rattle.macho_chains.specs.ChainStarts.{are_whole as are_whole_of, entr
 ghost use Rattle.macho_tables.specs.Items.{IsFirstItem};
 
 use crate::chain_header::ChainHeader;
-use crate::fixup_chains::*;
+use macho_fields::header::fixup_chains::*;
 use macho_fields::{Bytes, Order, Span};
 use macho_image::{Image, Segment};
 use macho_tables::fields::{half_at, word_at};

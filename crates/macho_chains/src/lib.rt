@@ -8,5 +8,3 @@ pub mod chain_pages;
 pub mod chain_pointers;
 pub mod chain_starts;
 pub mod chains;
-pub mod fixup_chains;
-pub mod law;

@@ -3,12 +3,12 @@ use Rattle.std.specs.Prelude.{ℕ, ◌+◌, ◌≤◌, ◌==◌, ⊤, List, [], 
 use Rattle.std.specs.List.{list_any}
 use Rattle.std.specs.Option.{option_map}
 use Rattle.macho_fields.specs.LoadCommands.{word_table, hint_table, linkedit_data_table, width_size, AreFieldsInside}
-use Rattle.macho_fields.specs.declared.header.loader.TheConstants as fields
 use Rattle.macho_fields.specs.declared.load_command.TableFields.{TableFields}
 use Rattle.macho_fields.specs.declared.load_command.Width.TheVariants.{Uint32, Uint64}
 use Rattle.macho_commands.specs.declared.content.Content.{Content}
 use Rattle.macho_commands.specs.declared.content.Holding.{Holding}
 use Rattle.macho_commands.specs.declared.content.Holding.TheVariants as holding
+use Rattle.macho_fields.specs.declared.header.loader.TheConstants as loader
 use Rattle.macho_commands.specs.declared.loader.TheConstants as loader
 
 pub record HeldCommand : Type 0 where
@@ -38,7 +38,7 @@ held_commands =
     ∷ held loader.LC_SUB_UMBRELLA 12 holding.Name
     ∷ held loader.LC_SUB_CLIENT 12 holding.Name
     ∷ held loader.LC_SUB_LIBRARY 12 holding.Name
-    ∷ held fields.LC_TWOLEVEL_HINTS 16 (holding.Range hint_table)
+    ∷ held loader.LC_TWOLEVEL_HINTS 16 (holding.Range hint_table)
     ∷ held loader.LC_PREBIND_CKSUM 12 holding.Nothing
     ∷ held loader.LC_ROUTINES_64 72 (holding.Routine Uint64)
     ∷ held loader.LC_VERSION_MIN_MACOSX 16 holding.Nothing
@@ -47,9 +47,9 @@ held_commands =
     ∷ held loader.LC_LINKER_OPTION 12 holding.CountedStrings
     ∷ held loader.LC_VERSION_MIN_TVOS 16 holding.Nothing
     ∷ held loader.LC_VERSION_MIN_WATCHOS 16 holding.Nothing
-    ∷ held fields.LC_ATOM_INFO 16 (holding.Range linkedit_data_table)
-    ∷ held fields.LC_FUNCTION_VARIANTS 16 (holding.Range linkedit_data_table)
-    ∷ held fields.LC_FUNCTION_VARIANT_FIXUPS 16 (holding.Range linkedit_data_table)
+    ∷ held loader.LC_ATOM_INFO 16 (holding.Range linkedit_data_table)
+    ∷ held loader.LC_FUNCTION_VARIANTS 16 (holding.Range linkedit_data_table)
+    ∷ held loader.LC_FUNCTION_VARIANT_FIXUPS 16 (holding.Range linkedit_data_table)
     ∷ held loader.LC_TARGET_TRIPLE 12 holding.Name
     ∷ []
 

@@ -6,7 +6,7 @@ use Rattle.std.specs.Option.{option_map}
 use Rattle.macho_fields.specs.declared.header.machine.TheConstants as machine
 use Rattle.macho_commands.specs.declared.registers.Registers.{Registers}
 use Rattle.macho_commands.specs.declared.registers.StateHeader.{StateHeader}
-use Rattle.macho_commands.specs.declared.loader.TheConstants as loader
+use Rattle.macho_fields.specs.declared.header.thread_status.TheConstants as loader
 
 pub record RegisterState : Type 0 where
   pub cputype : ℕ

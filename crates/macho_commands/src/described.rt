@@ -9,10 +9,9 @@ ghost use Rattle.macho_commands.specs.Described.{IsBadName, IsInName, HasBadModu
 ghost use Rattle.macho_commands.specs.Described.{HasBadPart, HasStrayByte, AreParts, LieInside, IsInParts, HasOther};
 
 use crate::content::{Content, Holding};
-use crate::loader::MODULES_OF_A_BYTE;
-use crate::loader::prebound_dylib_command::{LINKED_MODULES, NMODULES};
 use crate::strings::strings_end;
-use macho_fields::header::loader::LC_STR_OFFSET;
+use macho_fields::header::loader::prebound_dylib_command::{LINKED_MODULES, NMODULES};
+use macho_fields::header::loader::{LC_STR_OFFSET, MODULES_OF_A_BYTE};
 use macho_fields::{Bytes, Order, Span};
 
 // Two parts of a command. They may be empty, or share bytes.

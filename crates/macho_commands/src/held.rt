@@ -7,8 +7,8 @@ ghost use Rattle.macho_commands.specs.Content.{HasFields};
 
 use crate::content::{Content, Holding, content_of, is_foreign};
 use crate::described::has_bad_bytes;
-use crate::loader::routines_command::INIT_ADDRESS;
 use macho_fields::Bytes;
+use macho_fields::header::loader::routines_command::INIT_ADDRESS;
 use macho_image::Image;
 use macho_rules::is_executable;
 

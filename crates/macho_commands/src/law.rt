@@ -3,13 +3,7 @@
 
 ghost use Rattle.std.specs.Prelude.{ℕ};
 ghost use Rattle.macho_commands.specs.Commands.{BreaksThread, BreaksCommandContent};
-ghost use Rattle.macho_commands.specs.Loader.{AreLoaderConstants};
 ghost use Rattle.macho_commands.specs.Sound.{HasSoundCommands};
-
-/// Each constant of `loader` is the number that its header defines, as `specs/Loader.antt` lists them.
-pub fn loader_constants_are_those_of_the_header()
-    ensures { AreLoaderConstants }
-{}
 
 /// An image that breaks neither the rule of threads nor that of the content of commands has at most one thread and
 /// one routine, and what its commands hold and name is there.

@@ -9,7 +9,6 @@ pub mod content;
 mod described;
 mod held;
 pub mod law;
-pub mod loader;
 pub mod registers;
 mod states;
 mod strings;

@@ -4,12 +4,12 @@
 ghost use Rattle.std.specs.Prelude.{◌≡◌, ◌+◌, ◌*◌, ◌≤◌, IfSome};
 ghost use Rattle.macho_commands.specs.Registers.{registers_of, AreInside};
 
-use crate::loader::{
+use macho_fields::header::machine::{CPU_TYPE_ARM64, CPU_TYPE_X86_64};
+use macho_fields::header::thread_status::{
     ARM_THREAD_STATE64, ARM_THREAD_STATE64_COUNT, STATE_HEADER_SIZE, X86_THREAD_STATE,
     X86_THREAD_STATE_COUNT, X86_THREAD_STATE64, X86_THREAD_STATE64_COUNT, arm_thread_state64,
     x86_thread_state64,
 };
-use macho_fields::header::machine::{CPU_TYPE_ARM64, CPU_TYPE_X86_64};
 
 /// The flavor and the number of words with which a state begins.
 #[derive(Clone, Copy, Debug, PartialEq, Eq)]

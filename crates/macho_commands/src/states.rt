@@ -5,9 +5,9 @@ ghost use Rattle.macho_fields.specs.Bytes.{bytes_of};
 ghost use Rattle.macho_commands.specs.States.{state_end, has_registers, header_at, IsRegisterState, IsEntryOf};
 ghost use Rattle.macho_commands.specs.States.{HasThreadEntry, HasStateHeader};
 
-use crate::loader::{STATE_COUNT, STATE_HEADER_SIZE, STATE_WORD_SIZE};
 use crate::registers::{StateHeader, registers_of};
 use macho_fields::header::loader::LOAD_COMMAND_SIZE;
+use macho_fields::header::thread_status::{STATE_COUNT, STATE_HEADER_SIZE, STATE_WORD_SIZE};
 use macho_fields::{Bytes, Order};
 
 // The entry that the thread names, or `None` where it has not one state with registers, or these are not whole.

@@ -4,7 +4,7 @@ ghost use Rattle.std.specs.Prelude.{◌+◌, ◌≤◌, length, IfSome, IfNone};
 ghost use Rattle.macho_fields.specs.Bytes.{bytes_of};
 ghost use Rattle.macho_commands.specs.Described.{HasFewStrings, IsEndOfStrings};
 
-use crate::loader::linker_option_command::COUNT;
+use macho_fields::header::loader::linker_option_command::COUNT;
 use macho_fields::{Bytes, Order, Span};
 
 // Where the strings of the command end, with the zero byte of the last, or `None` where it has too few zero bytes.

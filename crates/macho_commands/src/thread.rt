@@ -4,10 +4,9 @@ ghost use Rattle.std.specs.Prelude.{◌≡◌, ◌↔◌, ◌≤◌, ℕ, length
 ghost use Rattle.macho_fields.specs.Bytes.{bytes_of};
 ghost use Rattle.macho_commands.specs.Commands.{is_thread, NamesEntry, IsBadThread, IsThreadEntry};
 
-use crate::loader::{LC_THREAD, LC_UNIXTHREAD};
 use crate::states::thread_entry_of;
 use macho_fields::Bytes;
-use macho_fields::header::loader::LOAD_COMMAND_SIZE;
+use macho_fields::header::loader::{LC_THREAD, LC_UNIXTHREAD, LOAD_COMMAND_SIZE};
 use macho_image::Image;
 use macho_rules::is_executable;
 

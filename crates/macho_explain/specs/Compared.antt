@@ -19,15 +19,15 @@ use Rattle.macho_tables.specs.Numbers.{unsigned_at}
 use Rattle.macho_tables.specs.StartNumbers.{IsStartAt}
 use Rattle.macho_chains.specs.declared.chain_starts.PointerFormat.{PointerFormat}
 use Rattle.macho_tables.specs.declared.data_in_code.DataInCodeEntry.{DataInCodeEntry}
-use Rattle.macho_tables.specs.declared.data_in_code.TheConstants as dice
 use Rattle.macho_exports.specs.declared.export_trie.Target.{Target}
 use Rattle.macho_exports.specs.declared.export_trie.Target.TheVariants as target
-use Rattle.macho_chains.specs.declared.fixup_chains.TheConstants as chained
+use Rattle.macho_fields.specs.declared.header.fixup_chains.TheConstants as chained
 use Rattle.macho_spans.specs.Span.{end_of}
 use Rattle.macho_spans.specs.declared.span.Span.{Span}
 use Rattle.macho_symbols.specs.Nlist.{library_ordinal}
 use Rattle.macho_symbols.specs.Reloc.{relocation_at}
 use Rattle.macho_symbols.specs.declared.reloc.Relocation.{Relocation}
+use Rattle.macho_fields.specs.declared.header.reloc.TheConstants as reloc
 use Rattle.macho_symbols.specs.declared.reloc.TheConstants as reloc
 use Rattle.macho_image.specs.Symbol.{symbol_at}
 use Rattle.macho_explain.specs.Explain.{all_loads, IsCommandAt, IsSectionAt, IsSymbolAt, no_index, long_at, word_at}
@@ -98,7 +98,7 @@ IsFunctionShown image place address =
 -- the kind of an entry of data in code, and the last one that has a meaning; or where its bytes end
 abbrev pub IsEntryShown : DataInCodeEntry → Conflict → Type 0
 IsEntryShown entry c =
-    ((c.value ≡ entry.kind) × (c.limit ≡ dice.DICE_KIND_ABS_JUMP_TABLE32))
+    ((c.value ≡ entry.kind) × (c.limit ≡ loader.DICE_KIND_ABS_JUMP_TABLE32))
     ⊎ (c.value ≡ entry.offset + entry.length)
 
 -- the place is at an offset of a table of the image, whose bytes have P
@@ -235,7 +235,7 @@ ShowsConflict rule.ExportAddress image place c = ShowsExport rule.ExportAddress 
 ShowsConflict rule.FunctionNumber image place c = (slice_get image place ≡ Some c.value) × (c.limit ≡ 0)
 ShowsConflict rule.FunctionStart image place c = IsFunctionShown image place c.value
 ShowsConflict rule.DataInCode image place c =
-    (c.limit ≡ dice.DATA_IN_CODE_ENTRY_SIZE) ⊎ IsEntryShown (entry_at image place) c
+    (c.limit ≡ loader.DATA_IN_CODE_ENTRY_SIZE) ⊎ IsEntryShown (entry_at image place) c
 ShowsConflict rule.SignatureBlob image place c = ShowsSignature rule.SignatureBlob image place c.value c.limit
 ShowsConflict rule.SignatureDirectory image place c =
     ShowsSignature rule.SignatureDirectory image place c.value c.limit

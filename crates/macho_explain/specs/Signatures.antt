@@ -12,7 +12,7 @@ use Rattle.macho_signature.specs.CodeDirectories.{code_directory, fields_size, s
 use Rattle.macho_signature.specs.Signature.{bytes_at}
 use Rattle.macho_signature.specs.Superblobs.{big_word, blob_at, blob_count, blob_end, entry_offset, least_offset, superblob_at}
 use Rattle.macho_signature.specs.declared.code_directory.CodeDirectory.{CodeDirectory}
-use Rattle.macho_signature.specs.declared.cs_blobs.TheConstants as cs
+use Rattle.macho_fields.specs.declared.header.cs_blobs.TheConstants as cs
 use Rattle.macho_explain.specs.Explain.{all_loads, word_at}
 
 -- what is shown is two numbers that have to be the same, and are not; one that is below the limit, and may not be; or

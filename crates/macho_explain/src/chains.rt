@@ -20,7 +20,7 @@ use crate::walk::{Sought, walk_to};
 use macho_chains::chain_header::ChainHeader;
 use macho_chains::chain_imports::{Ordinal, name_size};
 use macho_chains::chain_starts::{SegmentStarts, segment_count};
-use macho_chains::fixup_chains::{
+use macho_fields::header::fixup_chains::{
     DYLD_CHAINED_FIXUPS_HEADER_SIZE, DYLD_CHAINED_STARTS_IN_IMAGE_SIZE,
     DYLD_CHAINED_STARTS_IN_SEGMENT_SIZE, SEG_INFO_OFFSET_SIZE,
 };

@@ -12,13 +12,13 @@ use crate::signature::{Signature, word};
 use crate::sliced::Sliced;
 use crate::table::Bounded;
 use macho_fields::Bytes;
+use macho_fields::header::cs_blobs::{
+    CS_CODE_DIRECTORY_SIZE, CS_EARLIEST_VERSION, CS_HASHTYPE_SHA384, CS_SUPPORTSSCATTER,
+    CSMAGIC_CODEDIRECTORY, MOST_PAGE_SIZE,
+};
 use macho_signature::CodeDirectory;
 use macho_signature::code_directory::{
     SCATTER_OFFSET, VERSION, fields_size, has_name, size_of_hash, slots_of,
-};
-use macho_signature::cs_blobs::{
-    CS_CODE_DIRECTORY_SIZE, CS_EARLIEST_VERSION, CS_HASHTYPE_SHA384, CS_SUPPORTSSCATTER,
-    CSMAGIC_CODEDIRECTORY, MOST_PAGE_SIZE,
 };
 use macho_signature::superblob::MAGIC;
 

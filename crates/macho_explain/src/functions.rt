@@ -16,11 +16,11 @@ use crate::sliced::Sliced;
 use crate::spot::Spot;
 use crate::table::{Bounded, table_by, tables_of};
 use crate::walk::{Sought, walk_to};
-use macho_fields::header::loader::{LC_DATA_IN_CODE, LC_FUNCTION_STARTS};
-use macho_fields::{Bytes, Rule, Span};
-use macho_tables::data_in_code::{
-    DATA_IN_CODE_ENTRY_SIZE, DICE_KIND_ABS_JUMP_TABLE32, DataInCodeEntry, is_known_kind,
+use macho_fields::header::loader::{
+    DATA_IN_CODE_ENTRY_SIZE, DICE_KIND_ABS_JUMP_TABLE32, LC_DATA_IN_CODE, LC_FUNCTION_STARTS,
 };
+use macho_fields::{Bytes, Rule, Span};
+use macho_tables::data_in_code::{DataInCodeEntry, is_known_kind};
 use macho_tables::numbers::read_uleb;
 
 // Explains a rule of functions or of data in code that is broken at the place.

@@ -16,7 +16,7 @@ use crate::spot::Spot;
 use macho_chains::chain_pages::plain_room;
 use macho_chains::chain_pointers::ChainPointer;
 use macho_chains::chain_starts::SegmentStarts;
-use macho_chains::fixup_chains::{
+use macho_fields::header::fixup_chains::{
     DYLD_CHAINED_PTR_START_NONE, DYLD_CHAINED_STARTS_IN_SEGMENT_SIZE, PAGE_START_SIZE,
 };
 use macho_fields::{Order, Span};

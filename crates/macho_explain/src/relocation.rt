@@ -12,10 +12,10 @@ use crate::spot::Spot;
 use crate::table::table_with;
 use crate::walk::{Sought, walk_to};
 use macho_fields::header::loader::LC_DYSYMTAB;
-use macho_fields::header::reloc::RELOCATION_INFO_SIZE;
+use macho_fields::header::reloc::{POINTER_LENGTH, RELOCATION_INFO_SIZE};
 use macho_fields::{Rule, Span};
 use macho_image::Image;
-use macho_symbols::reloc::{POINTER_LENGTH, Relocation};
+use macho_symbols::reloc::Relocation;
 use macho_symbols::relocations::Named;
 
 // The indices of the external and the local relocations among the tables of `dysymtab_command`, and the one past

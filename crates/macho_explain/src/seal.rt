@@ -16,12 +16,12 @@ use crate::signature::{Signature, index_at, signature_of};
 use crate::sliced::Sliced;
 use crate::spot::Spot;
 use crate::walk::{Sought, walk_to};
+use macho_fields::header::cs_blobs::CS_BLOB_INDEX_SIZE;
 use macho_fields::header::loader::{LC_CODE_SIGNATURE, MACH_HEADER_64_SIZE};
 use macho_fields::{Bytes, Rule, Span};
 use macho_sealed::digest::has_hash;
 use macho_sealed::pages::{code_slot, page_at};
 use macho_sealed::specials::{has_special_hash, is_special_slot, special_slot};
-use macho_signature::cs_blobs::CS_BLOB_INDEX_SIZE;
 use macho_signature::{Blob, CodeDirectory};
 
 // How many code directories are looked at: no signature with another in each slot has more.

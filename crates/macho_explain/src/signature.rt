@@ -16,11 +16,11 @@ use crate::part::{BYTE, NO_INDEX, Part, SIGNATURE_BLOB, SIGNATURE_ENTRY};
 use crate::sliced::Sliced;
 use crate::spot::Spot;
 use crate::table::Bounded;
-use macho_fields::header::loader::LC_CODE_SIGNATURE;
-use macho_fields::{Bytes, Order, Rule, Span};
-use macho_signature::cs_blobs::{
+use macho_fields::header::cs_blobs::{
     CS_BLOB_INDEX_SIZE, CS_GENERIC_BLOB_SIZE, CS_SUPER_BLOB_SIZE, CSMAGIC_EMBEDDED_SIGNATURE,
 };
+use macho_fields::header::loader::LC_CODE_SIGNATURE;
+use macho_fields::{Bytes, Order, Rule, Span};
 use macho_signature::superblob::{
     COUNT, LENGTH, MAGIC, OFFSET, SUPER_BLOB_LENGTH, entry_offset, word_at,
 };

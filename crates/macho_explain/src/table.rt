@@ -19,9 +19,8 @@ use crate::sliced::Sliced;
 use crate::spot::{Spot, command_spot};
 use crate::walk::{Sought, Walked, walk_to};
 use macho_commands::content_of;
-use macho_commands::loader::{LC_THREAD, LC_UNIXTHREAD};
 use macho_fields::header::loader::entry_point_command::ENTRYOFF;
-use macho_fields::header::loader::{LC_STR_OFFSET, LC_SYMTAB};
+use macho_fields::header::loader::{LC_STR_OFFSET, LC_SYMTAB, LC_THREAD, LC_UNIXTHREAD};
 use macho_fields::{Rule, Span, TableFields, Width, structure_of, table_end};
 use macho_rows::load::Load;
 

@@ -7,7 +7,7 @@ use Rattle.macho_spans.specs.declared.span.Span.{Span}
 use Rattle.macho_exports.specs.ExportTrie.{Node, node_at, export_in}
 use Rattle.macho_exports.specs.declared.export_trie.Export.{Export}
 use Rattle.macho_exports.specs.declared.export_trie.ExportEdge.{ExportEdge}
-use Rattle.macho_exports.specs.declared.export_trie.TheConstants as flag
+use Rattle.macho_fields.specs.declared.header.loader.TheConstants as flag
 
 -- The walk
 

@@ -19,7 +19,6 @@ use Rattle.macho_tables.specs.Limits.{library_count}
 use Rattle.macho_exports.specs.declared.export_trie.Export.{Export}
 use Rattle.macho_exports.specs.declared.export_trie.Target.{Target}
 use Rattle.macho_exports.specs.declared.export_trie.Target.TheVariants as target
-use Rattle.macho_exports.specs.declared.export_trie.TheConstants as flag
 use Rattle.macho_exports.specs.declared.exports.Destinations.{Destinations}
 use Rattle.macho_exports.specs.declared.exports.ExportSurvey.{ExportSurvey}
 use Rattle.macho_exports.specs.declared.exports.NodeBreaks.{NodeBreaks}
@@ -45,7 +44,7 @@ LeadsNowhere image base other = ⊥
 -- the address of an absolute symbol is none of the image
 abbrev pub is_absolute : ℕ → Bool
 is_absolute flags =
-    bit_and flags flag.EXPORT_SYMBOL_FLAGS_KIND_MASK == flag.EXPORT_SYMBOL_FLAGS_KIND_ABSOLUTE
+    bit_and flags loader.EXPORT_SYMBOL_FLAGS_KIND_MASK == loader.EXPORT_SYMBOL_FLAGS_KIND_ABSOLUTE
 
 abbrev pub HasNoLibrary : List ℕ → Export → Type 0
 HasNoLibrary image export = IsOfNoLibrary (library_count image) export.target

@@ -6,32 +6,11 @@ ghost use Rattle.macho_fields.specs.Bytes.{bytes_of};
 ghost use Rattle.macho_spans.specs.Span.{end_of};
 ghost use Rattle.macho_exports.specs.ExportTrie.{name_at, find_terminal as find_terminal_of, find_export as find_export_of};
 
+use macho_fields::header::loader::{
+    EXPORT_SYMBOL_FLAGS_REEXPORT, EXPORT_SYMBOL_FLAGS_STUB_AND_RESOLVER,
+};
 use macho_fields::{Bytes, Span};
 use macho_tables::numbers::read_uleb;
-
-/// Of the flags, those that say of which kind a symbol is.
-pub const EXPORT_SYMBOL_FLAGS_KIND_MASK: u64 = 0x03;
-
-/// The kind whose address counts from the base of the image.
-pub const EXPORT_SYMBOL_FLAGS_KIND_REGULAR: u64 = 0x00;
-
-/// The kind of a thread-local variable. What describes it is at the address.
-pub const EXPORT_SYMBOL_FLAGS_KIND_THREAD_LOCAL: u64 = 0x01;
-
-/// The kind whose address does not count from the base of the image.
-pub const EXPORT_SYMBOL_FLAGS_KIND_ABSOLUTE: u64 = 0x02;
-
-/// The flag of a symbol that another one of its name can replace.
-pub const EXPORT_SYMBOL_FLAGS_WEAK_DEFINITION: u64 = 0x04;
-
-/// The flag of a symbol of another library.
-pub const EXPORT_SYMBOL_FLAGS_REEXPORT: u64 = 0x08;
-
-/// The flag of a symbol whose address a function of the image finds.
-pub const EXPORT_SYMBOL_FLAGS_STUB_AND_RESOLVER: u64 = 0x10;
-
-/// A flag of later versions of the header. No rule knows it.
-pub const EXPORT_SYMBOL_FLAGS_STATIC_RESOLVER: u64 = 0x20;
 
 /// What a name is exported as.
 #[derive(Clone, Copy, Debug, PartialEq, Eq)]

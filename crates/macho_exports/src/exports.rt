@@ -10,14 +10,14 @@ ghost use Rattle.macho_spans.specs.Span.{end_of};
 ghost use Rattle.macho_exports.specs.ExportWalk.{have_meaning as have_meaning_of, whole_export};
 ghost use Rattle.macho_exports.specs.Exports.{export_table as export_table_of, exports_data as exports_data_of, info_exports as info_exports_of, some_bytes as some_bytes_of, is_absolute as is_absolute_of, IsNotedLeast, IsOfNoLibrary, AreLeastInTrie};
 
-use crate::export_trie::{
-    EXPORT_SYMBOL_FLAGS_KIND_ABSOLUTE, EXPORT_SYMBOL_FLAGS_KIND_MASK, EXPORT_SYMBOL_FLAGS_REEXPORT,
-    EXPORT_SYMBOL_FLAGS_STUB_AND_RESOLVER, Export, Target,
-};
+use crate::export_trie::{Export, Target};
 use crate::export_walk::Waiting;
-use macho_fields::header::loader::LC_DYLD_EXPORTS_TRIE;
 use macho_fields::header::loader::dyld_info_command::EXPORT_OFF;
 use macho_fields::header::loader::linkedit_data_command::DATAOFF;
+use macho_fields::header::loader::{
+    EXPORT_SYMBOL_FLAGS_KIND_ABSOLUTE, EXPORT_SYMBOL_FLAGS_KIND_MASK, EXPORT_SYMBOL_FLAGS_REEXPORT,
+    EXPORT_SYMBOL_FLAGS_STUB_AND_RESOLVER, LC_DYLD_EXPORTS_TRIE,
+};
 use macho_fields::{Bytes, Span};
 use macho_image::Image;
 use macho_tables::homes::span_of;

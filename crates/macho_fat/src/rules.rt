@@ -10,7 +10,8 @@ ghost use Rattle.macho_fields.specs.Universal.{IsUniversal, IsImage, IsUnreadIma
 ghost use Rattle.macho_fields.specs.declared.rule.Rule.{Rule};
 ghost use Rattle.macho_fat.specs.TableWalk.{IsFormat};
 
-use crate::table::{NFAT_ARCH, Table, entry_size};
+use crate::table::{Table, entry_size};
+use macho_fields::header::fat::fat_header::NFAT_ARCH;
 use macho_fields::header::fat::{FAT_HEADER_SIZE, FAT_MAGIC, FAT_MAGIC_64};
 use macho_fields::header::loader::{MH_MAGIC, MH_MAGIC_64};
 use macho_fields::{Break, Bytes, FirstPlace, Order, Rule};

@@ -3,13 +3,12 @@
 
 ghost use Rattle.std.specs.Prelude.{◌≡◌, if◌then◌else◌};
 
-use macho_fields::header::fat::{FAT_ARCH_64_SIZE, FAT_ARCH_SIZE, FAT_HEADER_SIZE};
+use macho_fields::header::fat::{
+    FAT_ARCH_64_SIZE, FAT_ARCH_SIZE, FAT_HEADER_SIZE, fat_arch, fat_arch_64,
+};
 use macho_fields::header::machine::CPU_SUBTYPE_MASK;
 use macho_fields::{Bytes, Order, Span};
 use std::marker::Model;
-
-// `fat_header.nfat_arch`
-pub(crate) const NFAT_ARCH: u64 = 4;
 
 // How many bits a `cpusubtype` has without the capability bits.
 const CPU_SUBTYPE_BITS: u32 = 24;
@@ -25,18 +24,18 @@ struct Fields {
 
 // `fat_arch`
 const FAT_ARCH: Fields = Fields {
-    cpusubtype: 4,
-    offset: 8,
-    size: 12,
-    align: 16,
+    cpusubtype: fat_arch::CPUSUBTYPE,
+    offset: fat_arch::OFFSET,
+    size: fat_arch::SIZE,
+    align: fat_arch::ALIGN,
 };
 
 // `fat_arch_64`, whose `offset` and `size` have 64 bits.
 const FAT_ARCH_64: Fields = Fields {
-    cpusubtype: 4,
-    offset: 8,
-    size: 16,
-    align: 24,
+    cpusubtype: fat_arch_64::CPUSUBTYPE,
+    offset: fat_arch_64::OFFSET,
+    size: fat_arch_64::SIZE,
+    align: fat_arch_64::ALIGN,
 };
 
 // The size in bytes of an entry: a `fat_arch_64` where entries are wide, otherwise a `fat_arch`.

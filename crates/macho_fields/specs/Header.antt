@@ -2,11 +2,14 @@
 -- eye: the other definitions use the constants by name. The sizes are those of the structures that
 -- the headers declare, in bytes.
 use Rattle.std.specs.Prelude.{◌≡◌}
+use Rattle.macho_fields.specs.declared.header.cs_blobs.TheConstants as cs
 use Rattle.macho_fields.specs.declared.header.fat.TheConstants as fat
+use Rattle.macho_fields.specs.declared.header.fixup_chains.TheConstants as chains
 use Rattle.macho_fields.specs.declared.header.loader.TheConstants as loader
 use Rattle.macho_fields.specs.declared.header.machine.TheConstants as machine
 use Rattle.macho_fields.specs.declared.header.nlist.TheConstants as nlist
 use Rattle.macho_fields.specs.declared.header.reloc.TheConstants as reloc
+use Rattle.macho_fields.specs.declared.header.thread_status.TheConstants as thread_status
 use Rattle.macho_fields.specs.declared.header.vm_prot.TheConstants as vm_prot
 
 -- mach-o/fat.h
@@ -24,6 +27,8 @@ pub record AreLoaderConstants : Type 0 where
   -- mach_header.magic and mach_header_64.magic
   pub MH_MAGIC : loader.MH_MAGIC ≡ 0xfeedface
   pub MH_MAGIC_64 : loader.MH_MAGIC_64 ≡ 0xfeedfacf
+  -- mach_header_64.flags: each undefined symbol names its library
+  pub MH_TWOLEVEL : loader.MH_TWOLEVEL ≡ 0x80
   -- mach_header_64.filetype
   pub MH_EXECUTE : loader.MH_EXECUTE ≡ 0x2
   pub MH_DYLIB : loader.MH_DYLIB ≡ 0x6
@@ -34,6 +39,11 @@ pub record AreLoaderConstants : Type 0 where
   pub SEGMENT_COMMAND_64_SIZE : loader.SEGMENT_COMMAND_64_SIZE ≡ 72
   pub LINKEDIT_DATA_COMMAND_SIZE : loader.LINKEDIT_DATA_COMMAND_SIZE ≡ 16
   pub SECTION_64_SIZE : loader.SECTION_64_SIZE ≡ 80
+  -- the sizes of version_min_command and source_version_command
+  pub VERSION_MIN_COMMAND_SIZE : loader.VERSION_MIN_COMMAND_SIZE ≡ 16
+  pub SOURCE_VERSION_COMMAND_SIZE : loader.SOURCE_VERSION_COMMAND_SIZE ≡ 16
+  -- the size of segname and of sectname
+  pub SHORT_NAME_SIZE : loader.SHORT_NAME_SIZE ≡ 16
   -- the sizes of build_tool_version, dylib_table_of_contents, dylib_module_64, dylib_reference,
   -- twolevel_hint, and of an entry of the indirect symbol table
   pub BUILD_TOOL_VERSION_SIZE : loader.BUILD_TOOL_VERSION_SIZE ≡ 8
@@ -67,6 +77,32 @@ pub record AreLoaderConstants : Type 0 where
   pub LC_ATOM_INFO : loader.LC_ATOM_INFO ≡ 0x36
   pub LC_FUNCTION_VARIANTS : loader.LC_FUNCTION_VARIANTS ≡ 0x37
   pub LC_FUNCTION_VARIANT_FIXUPS : loader.LC_FUNCTION_VARIANT_FIXUPS ≡ 0x38
+  -- load_command.cmd of the commands that the layout only walks over
+  pub LC_SEGMENT : loader.LC_SEGMENT ≡ 0x1
+  pub LC_SYMSEG : loader.LC_SYMSEG ≡ 0x3
+  pub LC_THREAD : loader.LC_THREAD ≡ 0x4
+  pub LC_UNIXTHREAD : loader.LC_UNIXTHREAD ≡ 0x5
+  pub LC_LOADFVMLIB : loader.LC_LOADFVMLIB ≡ 0x6
+  pub LC_IDFVMLIB : loader.LC_IDFVMLIB ≡ 0x7
+  pub LC_IDENT : loader.LC_IDENT ≡ 0x8
+  pub LC_FVMFILE : loader.LC_FVMFILE ≡ 0x9
+  pub LC_PREPAGE : loader.LC_PREPAGE ≡ 0xa
+  pub LC_PREBOUND_DYLIB : loader.LC_PREBOUND_DYLIB ≡ 0x10
+  pub LC_ROUTINES : loader.LC_ROUTINES ≡ 0x11
+  pub LC_SUB_FRAMEWORK : loader.LC_SUB_FRAMEWORK ≡ 0x12
+  pub LC_SUB_UMBRELLA : loader.LC_SUB_UMBRELLA ≡ 0x13
+  pub LC_SUB_CLIENT : loader.LC_SUB_CLIENT ≡ 0x14
+  pub LC_SUB_LIBRARY : loader.LC_SUB_LIBRARY ≡ 0x15
+  pub LC_PREBIND_CKSUM : loader.LC_PREBIND_CKSUM ≡ 0x17
+  pub LC_ROUTINES_64 : loader.LC_ROUTINES_64 ≡ 0x1a
+  pub LC_ENCRYPTION_INFO : loader.LC_ENCRYPTION_INFO ≡ 0x21
+  pub LC_VERSION_MIN_MACOSX : loader.LC_VERSION_MIN_MACOSX ≡ 0x24
+  pub LC_VERSION_MIN_IPHONEOS : loader.LC_VERSION_MIN_IPHONEOS ≡ 0x25
+  pub LC_SOURCE_VERSION : loader.LC_SOURCE_VERSION ≡ 0x2a
+  pub LC_LINKER_OPTION : loader.LC_LINKER_OPTION ≡ 0x2d
+  pub LC_VERSION_MIN_TVOS : loader.LC_VERSION_MIN_TVOS ≡ 0x2f
+  pub LC_VERSION_MIN_WATCHOS : loader.LC_VERSION_MIN_WATCHOS ≡ 0x30
+  pub LC_TARGET_TRIPLE : loader.LC_TARGET_TRIPLE ≡ 0x39
   -- the bit LC_REQ_DYLD, and the commands that have it: the headers write 0x1c | LC_REQ_DYLD
   pub LC_REQ_DYLD : loader.LC_REQ_DYLD ≡ 0x80000000
   pub LC_LOAD_WEAK_DYLIB : loader.LC_LOAD_WEAK_DYLIB ≡ 0x80000018
@@ -77,6 +113,7 @@ pub record AreLoaderConstants : Type 0 where
   pub LC_MAIN : loader.LC_MAIN ≡ 0x80000028
   pub LC_DYLD_EXPORTS_TRIE : loader.LC_DYLD_EXPORTS_TRIE ≡ 0x80000033
   pub LC_DYLD_CHAINED_FIXUPS : loader.LC_DYLD_CHAINED_FIXUPS ≡ 0x80000034
+  pub LC_FILESET_ENTRY : loader.LC_FILESET_ENTRY ≡ 0x80000035
   -- segment_command_64.flags: a kernel decrypts the pages of the segment
   pub SG_PROTECTED_VERSION_1 : loader.SG_PROTECTED_VERSION_1 ≡ 0x8
   -- section_64.flags: the mask of the type, and the types without bytes in the file
@@ -87,6 +124,74 @@ pub record AreLoaderConstants : Type 0 where
   -- the marks of an indirect entry that is no index of a symbol
   pub INDIRECT_SYMBOL_LOCAL : loader.INDIRECT_SYMBOL_LOCAL ≡ 0x80000000
   pub INDIRECT_SYMBOL_ABS : loader.INDIRECT_SYMBOL_ABS ≡ 0x40000000
+
+-- mach-o/loader.h: the opcodes of LC_DYLD_INFO
+pub record AreOpcodeConstants : Type 0 where
+  -- of the stream of rebases
+  pub REBASE_OPCODE_MASK : loader.REBASE_OPCODE_MASK ≡ 0xf0
+  pub REBASE_IMMEDIATE_MASK : loader.REBASE_IMMEDIATE_MASK ≡ 0x0f
+  pub REBASE_TYPE_POINTER : loader.REBASE_TYPE_POINTER ≡ 1
+  pub REBASE_OPCODE_DONE : loader.REBASE_OPCODE_DONE ≡ 0x00
+  pub REBASE_OPCODE_SET_TYPE_IMM : loader.REBASE_OPCODE_SET_TYPE_IMM ≡ 0x10
+  pub REBASE_OPCODE_SET_SEGMENT_AND_OFFSET_ULEB : loader.REBASE_OPCODE_SET_SEGMENT_AND_OFFSET_ULEB ≡ 0x20
+  pub REBASE_OPCODE_ADD_ADDR_ULEB : loader.REBASE_OPCODE_ADD_ADDR_ULEB ≡ 0x30
+  pub REBASE_OPCODE_ADD_ADDR_IMM_SCALED : loader.REBASE_OPCODE_ADD_ADDR_IMM_SCALED ≡ 0x40
+  pub REBASE_OPCODE_DO_REBASE_IMM_TIMES : loader.REBASE_OPCODE_DO_REBASE_IMM_TIMES ≡ 0x50
+  pub REBASE_OPCODE_DO_REBASE_ULEB_TIMES : loader.REBASE_OPCODE_DO_REBASE_ULEB_TIMES ≡ 0x60
+  pub REBASE_OPCODE_DO_REBASE_ADD_ADDR_ULEB : loader.REBASE_OPCODE_DO_REBASE_ADD_ADDR_ULEB ≡ 0x70
+  pub REBASE_OPCODE_DO_REBASE_ULEB_TIMES_SKIPPING_ULEB : loader.REBASE_OPCODE_DO_REBASE_ULEB_TIMES_SKIPPING_ULEB ≡ 0x80
+  -- of the streams of binds
+  pub BIND_OPCODE_MASK : loader.BIND_OPCODE_MASK ≡ 0xf0
+  pub BIND_IMMEDIATE_MASK : loader.BIND_IMMEDIATE_MASK ≡ 0x0f
+  pub BIND_TYPE_POINTER : loader.BIND_TYPE_POINTER ≡ 1
+  pub BIND_OPCODE_DONE : loader.BIND_OPCODE_DONE ≡ 0x00
+  pub BIND_OPCODE_SET_DYLIB_ORDINAL_IMM : loader.BIND_OPCODE_SET_DYLIB_ORDINAL_IMM ≡ 0x10
+  pub BIND_OPCODE_SET_DYLIB_ORDINAL_ULEB : loader.BIND_OPCODE_SET_DYLIB_ORDINAL_ULEB ≡ 0x20
+  pub BIND_OPCODE_SET_DYLIB_SPECIAL_IMM : loader.BIND_OPCODE_SET_DYLIB_SPECIAL_IMM ≡ 0x30
+  pub BIND_OPCODE_SET_SYMBOL_TRAILING_FLAGS_IMM : loader.BIND_OPCODE_SET_SYMBOL_TRAILING_FLAGS_IMM ≡ 0x40
+  pub BIND_OPCODE_SET_TYPE_IMM : loader.BIND_OPCODE_SET_TYPE_IMM ≡ 0x50
+  pub BIND_OPCODE_SET_ADDEND_SLEB : loader.BIND_OPCODE_SET_ADDEND_SLEB ≡ 0x60
+  pub BIND_OPCODE_SET_SEGMENT_AND_OFFSET_ULEB : loader.BIND_OPCODE_SET_SEGMENT_AND_OFFSET_ULEB ≡ 0x70
+  pub BIND_OPCODE_ADD_ADDR_ULEB : loader.BIND_OPCODE_ADD_ADDR_ULEB ≡ 0x80
+  pub BIND_OPCODE_DO_BIND : loader.BIND_OPCODE_DO_BIND ≡ 0x90
+  pub BIND_OPCODE_DO_BIND_ADD_ADDR_ULEB : loader.BIND_OPCODE_DO_BIND_ADD_ADDR_ULEB ≡ 0xa0
+  pub BIND_OPCODE_DO_BIND_ADD_ADDR_IMM_SCALED : loader.BIND_OPCODE_DO_BIND_ADD_ADDR_IMM_SCALED ≡ 0xb0
+  pub BIND_OPCODE_DO_BIND_ULEB_TIMES_SKIPPING_ULEB : loader.BIND_OPCODE_DO_BIND_ULEB_TIMES_SKIPPING_ULEB ≡ 0xc0
+
+-- mach-o/loader.h: the flags of an export in a trie
+pub record AreExportConstants : Type 0 where
+  pub EXPORT_SYMBOL_FLAGS_KIND_MASK : loader.EXPORT_SYMBOL_FLAGS_KIND_MASK ≡ 0x03
+  pub EXPORT_SYMBOL_FLAGS_KIND_REGULAR : loader.EXPORT_SYMBOL_FLAGS_KIND_REGULAR ≡ 0x00
+  pub EXPORT_SYMBOL_FLAGS_KIND_THREAD_LOCAL : loader.EXPORT_SYMBOL_FLAGS_KIND_THREAD_LOCAL ≡ 0x01
+  pub EXPORT_SYMBOL_FLAGS_KIND_ABSOLUTE : loader.EXPORT_SYMBOL_FLAGS_KIND_ABSOLUTE ≡ 0x02
+  pub EXPORT_SYMBOL_FLAGS_WEAK_DEFINITION : loader.EXPORT_SYMBOL_FLAGS_WEAK_DEFINITION ≡ 0x04
+  pub EXPORT_SYMBOL_FLAGS_REEXPORT : loader.EXPORT_SYMBOL_FLAGS_REEXPORT ≡ 0x08
+  pub EXPORT_SYMBOL_FLAGS_STUB_AND_RESOLVER : loader.EXPORT_SYMBOL_FLAGS_STUB_AND_RESOLVER ≡ 0x10
+  pub EXPORT_SYMBOL_FLAGS_STATIC_RESOLVER : loader.EXPORT_SYMBOL_FLAGS_STATIC_RESOLVER ≡ 0x20
+
+-- mach-o/loader.h: the size of data_in_code_entry, and its kinds
+pub record AreDataInCodeConstants : Type 0 where
+  pub DATA_IN_CODE_ENTRY_SIZE : loader.DATA_IN_CODE_ENTRY_SIZE ≡ 8
+  pub DICE_KIND_DATA : loader.DICE_KIND_DATA ≡ 1
+  pub DICE_KIND_JUMP_TABLE8 : loader.DICE_KIND_JUMP_TABLE8 ≡ 2
+  pub DICE_KIND_JUMP_TABLE16 : loader.DICE_KIND_JUMP_TABLE16 ≡ 3
+  pub DICE_KIND_JUMP_TABLE32 : loader.DICE_KIND_JUMP_TABLE32 ≡ 4
+  pub DICE_KIND_ABS_JUMP_TABLE32 : loader.DICE_KIND_ABS_JUMP_TABLE32 ≡ 5
+
+-- mach-o/loader.h: build_version_command.platform
+pub record ArePlatforms : Type 0 where
+  pub PLATFORM_MACOS : loader.PLATFORM_MACOS ≡ 1
+  pub PLATFORM_IOS : loader.PLATFORM_IOS ≡ 2
+  pub PLATFORM_TVOS : loader.PLATFORM_TVOS ≡ 3
+  pub PLATFORM_WATCHOS : loader.PLATFORM_WATCHOS ≡ 4
+  pub PLATFORM_BRIDGEOS : loader.PLATFORM_BRIDGEOS ≡ 5
+  pub PLATFORM_MACCATALYST : loader.PLATFORM_MACCATALYST ≡ 6
+  pub PLATFORM_IOSSIMULATOR : loader.PLATFORM_IOSSIMULATOR ≡ 7
+  pub PLATFORM_TVOSSIMULATOR : loader.PLATFORM_TVOSSIMULATOR ≡ 8
+  pub PLATFORM_WATCHOSSIMULATOR : loader.PLATFORM_WATCHOSSIMULATOR ≡ 9
+  pub PLATFORM_DRIVERKIT : loader.PLATFORM_DRIVERKIT ≡ 10
+  pub PLATFORM_VISIONOS : loader.PLATFORM_VISIONOS ≡ 11
+  pub PLATFORM_VISIONOSSIMULATOR : loader.PLATFORM_VISIONOSSIMULATOR ≡ 12
 
 -- mach/machine.h
 pub record AreMachineConstants : Type 0 where
@@ -106,16 +211,104 @@ pub record AreNlistConstants : Type 0 where
   pub N_STAB : nlist.N_STAB ≡ 0xe0
   pub N_TYPE : nlist.N_TYPE ≡ 0x0e
   pub N_SECT : nlist.N_SECT ≡ 0x0e
+  -- n_type of a symbol that is undefined, stands for another name, or is undefined in a prebound image
+  pub N_UNDF : nlist.N_UNDF ≡ 0
+  pub N_INDR : nlist.N_INDR ≡ 0xa
+  pub N_PBUD : nlist.N_PBUD ≡ 0xc
+  -- the library ordinals in n_desc that are no number of a library
+  pub DYNAMIC_LOOKUP_ORDINAL : nlist.DYNAMIC_LOOKUP_ORDINAL ≡ 0xfe
+  pub EXECUTABLE_ORDINAL : nlist.EXECUTABLE_ORDINAL ≡ 0xff
   -- the size of nlist_64
   pub NLIST_64_SIZE : nlist.NLIST_64_SIZE ≡ 16
 
--- mach-o/reloc.h
+-- mach-o/reloc.h, mach-o/arm64/reloc.h
 pub record AreRelocConstants : Type 0 where
   -- the size of relocation_info
   pub RELOCATION_INFO_SIZE : reloc.RELOCATION_INFO_SIZE ≡ 8
+  -- relocation_info.r_type, and the r_length of 8 bytes
+  pub ARM64_RELOC_ADDEND : reloc.ARM64_RELOC_ADDEND ≡ 10
+  pub POINTER_LENGTH : reloc.POINTER_LENGTH ≡ 3
 
 -- mach/vm_prot.h
 pub record AreVmProtConstants : Type 0 where
   pub VM_PROT_READ : vm_prot.VM_PROT_READ ≡ 0x01
   pub VM_PROT_WRITE : vm_prot.VM_PROT_WRITE ≡ 0x02
   pub VM_PROT_EXECUTE : vm_prot.VM_PROT_EXECUTE ≡ 0x04
+
+-- mach/i386/thread_status.h, mach/arm/thread_status.h
+pub record AreThreadStatusConstants : Type 0 where
+  -- the flavors of a state
+  pub X86_THREAD_STATE64 : thread_status.X86_THREAD_STATE64 ≡ 4
+  pub X86_THREAD_STATE : thread_status.X86_THREAD_STATE ≡ 7
+  pub ARM_THREAD_STATE64 : thread_status.ARM_THREAD_STATE64 ≡ 6
+  -- the number of words of each
+  pub X86_THREAD_STATE64_COUNT : thread_status.X86_THREAD_STATE64_COUNT ≡ 42
+  pub X86_THREAD_STATE_COUNT : thread_status.X86_THREAD_STATE_COUNT ≡ 44
+  pub ARM_THREAD_STATE64_COUNT : thread_status.ARM_THREAD_STATE64_COUNT ≡ 68
+  -- the sizes of the flavor with the count, and of a word, in bytes
+  pub STATE_HEADER_SIZE : thread_status.STATE_HEADER_SIZE ≡ 8
+  pub STATE_WORD_SIZE : thread_status.STATE_WORD_SIZE ≡ 4
+
+-- mach-o/fixup-chains.h
+pub record AreFixupChainsConstants : Type 0 where
+  -- the sizes of dyld_chained_fixups_header, dyld_chained_starts_in_image and an entry of it, and
+  -- dyld_chained_starts_in_segment and a page start of it, in bytes
+  pub DYLD_CHAINED_FIXUPS_HEADER_SIZE : chains.DYLD_CHAINED_FIXUPS_HEADER_SIZE ≡ 28
+  pub DYLD_CHAINED_STARTS_IN_IMAGE_SIZE : chains.DYLD_CHAINED_STARTS_IN_IMAGE_SIZE ≡ 4
+  pub SEG_INFO_OFFSET_SIZE : chains.SEG_INFO_OFFSET_SIZE ≡ 4
+  pub DYLD_CHAINED_STARTS_IN_SEGMENT_SIZE : chains.DYLD_CHAINED_STARTS_IN_SEGMENT_SIZE ≡ 22
+  pub PAGE_START_SIZE : chains.PAGE_START_SIZE ≡ 2
+  -- dyld_chained_starts_in_segment.page_start of a page without a chain
+  pub DYLD_CHAINED_PTR_START_NONE : chains.DYLD_CHAINED_PTR_START_NONE ≡ 0xffff
+  -- dyld_chained_fixups_header.imports_format
+  pub DYLD_CHAINED_IMPORT : chains.DYLD_CHAINED_IMPORT ≡ 1
+  pub DYLD_CHAINED_IMPORT_ADDEND : chains.DYLD_CHAINED_IMPORT_ADDEND ≡ 2
+  pub DYLD_CHAINED_IMPORT_ADDEND64 : chains.DYLD_CHAINED_IMPORT_ADDEND64 ≡ 3
+  -- dyld_chained_starts_in_segment.pointer_format
+  pub DYLD_CHAINED_PTR_ARM64E : chains.DYLD_CHAINED_PTR_ARM64E ≡ 1
+  pub DYLD_CHAINED_PTR_64 : chains.DYLD_CHAINED_PTR_64 ≡ 2
+  pub DYLD_CHAINED_PTR_64_OFFSET : chains.DYLD_CHAINED_PTR_64_OFFSET ≡ 6
+  pub DYLD_CHAINED_PTR_ARM64E_USERLAND : chains.DYLD_CHAINED_PTR_ARM64E_USERLAND ≡ 9
+  pub DYLD_CHAINED_PTR_ARM64E_USERLAND24 : chains.DYLD_CHAINED_PTR_ARM64E_USERLAND24 ≡ 12
+
+-- kern/cs_blobs.h
+pub record AreCsBlobsConstants : Type 0 where
+  -- magic numbers
+  pub CSMAGIC_EMBEDDED_SIGNATURE : cs.CSMAGIC_EMBEDDED_SIGNATURE ≡ 0xfade0cc0
+  pub CSMAGIC_CODEDIRECTORY : cs.CSMAGIC_CODEDIRECTORY ≡ 0xfade0c02
+  -- slots
+  pub CSSLOT_CODEDIRECTORY : cs.CSSLOT_CODEDIRECTORY ≡ 0
+  pub CSSLOT_ALTERNATE_CODEDIRECTORIES : cs.CSSLOT_ALTERNATE_CODEDIRECTORIES ≡ 0x1000
+  pub CSSLOT_ALTERNATE_CODEDIRECTORY_MAX : cs.CSSLOT_ALTERNATE_CODEDIRECTORY_MAX ≡ 5
+  -- sizes of structures
+  pub CS_SUPER_BLOB_SIZE : cs.CS_SUPER_BLOB_SIZE ≡ 12
+  pub CS_BLOB_INDEX_SIZE : cs.CS_BLOB_INDEX_SIZE ≡ 8
+  pub CS_GENERIC_BLOB_SIZE : cs.CS_GENERIC_BLOB_SIZE ≡ 8
+  -- versions of a code directory, and the bytes of its fields from each on
+  pub CS_EARLIEST_VERSION : cs.CS_EARLIEST_VERSION ≡ 0x20000
+  pub CS_SUPPORTSSCATTER : cs.CS_SUPPORTSSCATTER ≡ 0x20100
+  pub CS_SUPPORTSTEAMID : cs.CS_SUPPORTSTEAMID ≡ 0x20200
+  pub CS_SUPPORTSCODELIMIT64 : cs.CS_SUPPORTSCODELIMIT64 ≡ 0x20300
+  pub CS_SUPPORTSEXECSEG : cs.CS_SUPPORTSEXECSEG ≡ 0x20400
+  pub CS_SUPPORTSRUNTIME : cs.CS_SUPPORTSRUNTIME ≡ 0x20500
+  pub CS_SUPPORTSLINKAGE : cs.CS_SUPPORTSLINKAGE ≡ 0x20600
+  pub CS_CODE_DIRECTORY_SIZE : cs.CS_CODE_DIRECTORY_SIZE ≡ 44
+  pub SIZE_WITH_SCATTER : cs.SIZE_WITH_SCATTER ≡ 48
+  pub SIZE_WITH_TEAMID : cs.SIZE_WITH_TEAMID ≡ 52
+  pub SIZE_WITH_CODELIMIT64 : cs.SIZE_WITH_CODELIMIT64 ≡ 64
+  pub SIZE_WITH_EXECSEG : cs.SIZE_WITH_EXECSEG ≡ 88
+  pub SIZE_WITH_RUNTIME : cs.SIZE_WITH_RUNTIME ≡ 96
+  pub SIZE_WITH_LINKAGE : cs.SIZE_WITH_LINKAGE ≡ 108
+  -- types of hashes, and their sizes
+  pub CS_HASHTYPE_SHA1 : cs.CS_HASHTYPE_SHA1 ≡ 1
+  pub CS_HASHTYPE_SHA256 : cs.CS_HASHTYPE_SHA256 ≡ 2
+  pub CS_HASHTYPE_SHA256_TRUNCATED : cs.CS_HASHTYPE_SHA256_TRUNCATED ≡ 3
+  pub CS_HASHTYPE_SHA384 : cs.CS_HASHTYPE_SHA384 ≡ 4
+  pub CS_SHA1_LEN : cs.CS_SHA1_LEN ≡ 20
+  pub CS_SHA256_LEN : cs.CS_SHA256_LEN ≡ 32
+  pub CS_SHA256_TRUNCATED_LEN : cs.CS_SHA256_TRUNCATED_LEN ≡ 20
+  pub CS_SHA384_LEN : cs.CS_SHA384_LEN ≡ 48
+  -- the greatest log2 of a page
+  pub MOST_PAGE_SIZE : cs.MOST_PAGE_SIZE ≡ 31
+  -- the size of a cdhash
+  pub CS_CDHASH_LEN : cs.CS_CDHASH_LEN ≡ 20

@@ -9,12 +9,14 @@ use crate::header::loader;
 /// What an image is.
 #[derive(Clone, Copy, Debug, PartialEq, Eq)]
 pub enum Kind {
-    /// A program, `MH_EXECUTE`.
+    // registry: kinds
+    /// `MH_EXECUTE`: an executable, which is run as a program.
     Execute,
-    /// A library, `MH_DYLIB`.
+    /// `MH_DYLIB`: a library, which programs are linked with.
     Dylib,
-    /// A bundle, `MH_BUNDLE`, which a running program loads.
+    /// `MH_BUNDLE`: a bundle, which a running program loads.
     Bundle,
+    // registry: end
 }
 
 /// A filetype that is judged.
@@ -44,9 +46,11 @@ macro_rules! file_type {
 
 // The filetypes that are judged.
 const FILE_TYPES: &[FileType] = &[
+    // registry: filetypes
     file_type!(MH_EXECUTE, Execute, "execute", false),
     file_type!(MH_DYLIB, Dylib, "dylib", true),
     file_type!(MH_BUNDLE, Bundle, "bundle", false),
+    // registry: end
 ];
 
 /// The filetype with this number, or `None` if images of it are not judged.

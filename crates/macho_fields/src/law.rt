@@ -3,9 +3,11 @@
 
 ghost use Rattle.std.specs.Prelude.{◌≡◌, ◌≤◌, ◌↔◌, ℕ, None, length};
 ghost use Rattle.std.specs.List.Sorted.{IsStrictlyIncreasing};
-ghost use Rattle.macho_fields.specs.Header.{AreFatConstants, AreLoaderConstants};
-ghost use Rattle.macho_fields.specs.Header.{AreMachineConstants, AreNlistConstants};
-ghost use Rattle.macho_fields.specs.Header.{AreRelocConstants, AreVmProtConstants};
+ghost use Rattle.macho_fields.specs.Header.{AreFatConstants, AreLoaderConstants, AreOpcodeConstants};
+ghost use Rattle.macho_fields.specs.Header.{AreExportConstants, AreDataInCodeConstants, ArePlatforms};
+ghost use Rattle.macho_fields.specs.Header.{AreMachineConstants, AreNlistConstants, AreRelocConstants};
+ghost use Rattle.macho_fields.specs.Header.{AreVmProtConstants, AreThreadStatusConstants};
+ghost use Rattle.macho_fields.specs.Header.{AreFixupChainsConstants, AreCsBlobsConstants};
 ghost use Rattle.macho_fields.specs.Image.{AreCommands, commands_of};
 ghost use Rattle.macho_fields.specs.First.{IsFirstBroken, IsUnbroken};
 ghost use Rattle.macho_fields.specs.Field.{IsEnded, part};
@@ -21,10 +23,17 @@ use crate::rule::{Break, Rule};
 pub fn constants_are_those_of_the_headers()
     ensures fat { AreFatConstants }
     ensures loader { AreLoaderConstants }
+    ensures opcodes { AreOpcodeConstants }
+    ensures exports { AreExportConstants }
+    ensures data_in_code { AreDataInCodeConstants }
+    ensures platforms { ArePlatforms }
     ensures machine { AreMachineConstants }
     ensures nlist { AreNlistConstants }
     ensures reloc { AreRelocConstants }
     ensures vm_prot { AreVmProtConstants }
+    ensures thread_status { AreThreadStatusConstants }
+    ensures fixup_chains { AreFixupChainsConstants }
+    ensures cs_blobs { AreCsBlobsConstants }
 {}
 
 /// An image has at most one list of commands.

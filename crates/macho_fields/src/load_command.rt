@@ -7,38 +7,13 @@ ghost use Rattle.macho_fields.specs.LoadCommands.{names_library, unique_index};
 ghost use Rattle.macho_fields.specs.LoadCommands.{unlisted_tables, AreFieldsInside};
 
 use crate::bytes::{Bytes, Order};
-use crate::header::loader::build_version_command::NTOOLS;
-use crate::header::loader::dyld_info_command::{
-    BIND_OFF, BIND_SIZE_OFFSET, EXPORT_OFF, EXPORT_SIZE_OFFSET, LAZY_BIND_OFF,
-    LAZY_BIND_SIZE_OFFSET, REBASE_OFF, REBASE_SIZE_OFFSET, WEAK_BIND_OFF, WEAK_BIND_SIZE_OFFSET,
-};
-use crate::header::loader::dysymtab_command::{
-    EXTREFSYMOFF, EXTRELOFF, INDIRECTSYMOFF, LOCRELOFF, MODTABOFF, NEXTREFSYMS, NEXTREL,
-    NINDIRECTSYMS, NLOCREL, NMODTAB, NTOC, TOCOFF,
-};
-use crate::header::loader::encryption_info_command_64::{CRYPTOFF, CRYPTSIZE};
-use crate::header::loader::linkedit_data_command::{DATAOFF, DATASIZE};
-use crate::header::loader::note_command::{OFFSET, SIZE_OFFSET};
-use crate::header::loader::segment_command_64::NSECTS;
-use crate::header::loader::symtab_command::{NSYMS, STROFF, STRSIZE, SYMOFF};
-use crate::header::loader::{
-    BUILD_TOOL_VERSION_SIZE, DYLIB_MODULE_64_SIZE, DYLIB_REFERENCE_SIZE,
-    DYLIB_TABLE_OF_CONTENTS_SIZE, INDIRECT_ENTRY_SIZE, LC_ATOM_INFO, LC_BUILD_VERSION,
-    LC_CODE_SIGNATURE, LC_DATA_IN_CODE, LC_DYLD_CHAINED_FIXUPS, LC_DYLD_ENVIRONMENT,
-    LC_DYLD_EXPORTS_TRIE, LC_DYLD_INFO, LC_DYLD_INFO_ONLY, LC_DYLIB_CODE_SIGN_DRS, LC_DYSYMTAB,
-    LC_ENCRYPTION_INFO_64, LC_FUNCTION_STARTS, LC_FUNCTION_VARIANT_FIXUPS, LC_FUNCTION_VARIANTS,
-    LC_ID_DYLIB, LC_ID_DYLINKER, LC_LAZY_LOAD_DYLIB, LC_LINKER_OPTIMIZATION_HINT, LC_LOAD_DYLIB,
-    LC_LOAD_DYLINKER, LC_LOAD_UPWARD_DYLIB, LC_LOAD_WEAK_DYLIB, LC_MAIN, LC_NOTE,
-    LC_REEXPORT_DYLIB, LC_REQ_DYLD, LC_RPATH, LC_SEGMENT_64, LC_SEGMENT_SPLIT_INFO, LC_STR_OFFSET,
-    LC_SYMTAB, LC_TWOLEVEL_HINTS, LC_UUID, LINKEDIT_DATA_COMMAND_SIZE, SECTION_64_SIZE,
-    SEGMENT_COMMAND_64_SIZE, TWOLEVEL_HINT_SIZE, twolevel_hints_command,
-};
-use crate::header::nlist::NLIST_64_SIZE;
-use crate::header::reloc::RELOCATION_INFO_SIZE;
+use crate::header::loader::*;
+use crate::header::{loader, nlist, reloc};
 
 /// The structure of a load command, named as `mach-o/loader.h` names it.
 #[derive(Clone, Copy, Debug, PartialEq, Eq)]
 pub enum Structure {
+    // registry: structures
     /// `symtab_command`
     SymtabCommand,
     /// `dysymtab_command`
@@ -65,6 +40,7 @@ pub enum Structure {
     BuildVersionCommand,
     /// `entry_point_command`
     EntryPointCommand,
+    // registry: end
 }
 
 /// The records that follow a structure.
@@ -151,60 +127,59 @@ impl TableFields {
     }
 }
 
-// A table, by the offsets of the two fields that bound it, the width of these, and the size of an
-// item.
-macro_rules! table {
-    ($place:expr, $count:expr, $width:ident, $item_size:expr) => {
-        TableFields {
-            place: $place,
-            count: $count,
+// The tables of a structure, each by the names of the two fields that bound it, their width, and the size of an item.
+macro_rules! tables {
+    ($structure:ident: $($place:ident, $count:ident, $width:ident, $item_size:expr;)+) => {
+        [$(TableFields {
+            place: loader::$structure::$place,
+            count: loader::$structure::$count,
             width: Width::$width,
             item_size: $item_size,
-        }
+        }),+]
     };
 }
 
-// The symbols and their strings.
-const SYMTAB_TABLES: &[TableFields] = &[
-    table!(SYMOFF, NSYMS, Uint32, NLIST_64_SIZE),
-    table!(STROFF, STRSIZE, Uint32, 1),
-];
+// The tables of each structure that has any, in the order of its fields.
 
-// The table of contents, modules, referenced symbols, indirect entries, and relocations.
-const DYSYMTAB_TABLES: &[TableFields] = &[
-    table!(TOCOFF, NTOC, Uint32, DYLIB_TABLE_OF_CONTENTS_SIZE),
-    table!(MODTABOFF, NMODTAB, Uint32, DYLIB_MODULE_64_SIZE),
-    table!(EXTREFSYMOFF, NEXTREFSYMS, Uint32, DYLIB_REFERENCE_SIZE),
-    table!(INDIRECTSYMOFF, NINDIRECTSYMS, Uint32, INDIRECT_ENTRY_SIZE),
-    table!(EXTRELOFF, NEXTREL, Uint32, RELOCATION_INFO_SIZE),
-    table!(LOCRELOFF, NLOCREL, Uint32, RELOCATION_INFO_SIZE),
-];
+// registry: tables
+const SYMTAB_COMMAND_TABLES: &[TableFields] = &tables! { symtab_command:
+    SYMOFF, NSYMS, Uint32, nlist::NLIST_64_SIZE;
+    STROFF, STRSIZE, Uint32, 1;
+};
 
-// The data, as bytes.
-const LINKEDIT_DATA_TABLES: &[TableFields] = &[table!(DATAOFF, DATASIZE, Uint32, 1)];
+const DYSYMTAB_COMMAND_TABLES: &[TableFields] = &tables! { dysymtab_command:
+    TOCOFF, NTOC, Uint32, loader::DYLIB_TABLE_OF_CONTENTS_SIZE;
+    MODTABOFF, NMODTAB, Uint32, loader::DYLIB_MODULE_64_SIZE;
+    EXTREFSYMOFF, NEXTREFSYMS, Uint32, loader::DYLIB_REFERENCE_SIZE;
+    INDIRECTSYMOFF, NINDIRECTSYMS, Uint32, loader::INDIRECT_ENTRY_SIZE;
+    EXTRELOFF, NEXTREL, Uint32, reloc::RELOCATION_INFO_SIZE;
+    LOCRELOFF, NLOCREL, Uint32, reloc::RELOCATION_INFO_SIZE;
+};
 
-// Bytes of five kinds.
-const DYLD_INFO_TABLES: &[TableFields] = &[
-    table!(REBASE_OFF, REBASE_SIZE_OFFSET, Uint32, 1),
-    table!(BIND_OFF, BIND_SIZE_OFFSET, Uint32, 1),
-    table!(WEAK_BIND_OFF, WEAK_BIND_SIZE_OFFSET, Uint32, 1),
-    table!(LAZY_BIND_OFF, LAZY_BIND_SIZE_OFFSET, Uint32, 1),
-    table!(EXPORT_OFF, EXPORT_SIZE_OFFSET, Uint32, 1),
-];
+const LINKEDIT_DATA_COMMAND_TABLES: &[TableFields] = &tables! { linkedit_data_command:
+    DATAOFF, DATASIZE, Uint32, 1;
+};
 
-// The encrypted bytes.
-const ENCRYPTION_INFO_TABLES: &[TableFields] = &[table!(CRYPTOFF, CRYPTSIZE, Uint32, 1)];
+const DYLD_INFO_COMMAND_TABLES: &[TableFields] = &tables! { dyld_info_command:
+    REBASE_OFF, REBASE_SIZE_OFFSET, Uint32, 1;
+    BIND_OFF, BIND_SIZE_OFFSET, Uint32, 1;
+    WEAK_BIND_OFF, WEAK_BIND_SIZE_OFFSET, Uint32, 1;
+    LAZY_BIND_OFF, LAZY_BIND_SIZE_OFFSET, Uint32, 1;
+    EXPORT_OFF, EXPORT_SIZE_OFFSET, Uint32, 1;
+};
 
-// The data, as bytes.
-const NOTE_TABLES: &[TableFields] = &[table!(OFFSET, SIZE_OFFSET, Uint64, 1)];
+const ENCRYPTION_INFO_COMMAND_64_TABLES: &[TableFields] = &tables! { encryption_info_command_64:
+    CRYPTOFF, CRYPTSIZE, Uint32, 1;
+};
 
-// The hints.
-const HINT_TABLES: &[TableFields] = &[table!(
-    twolevel_hints_command::OFFSET,
-    twolevel_hints_command::NHINTS,
-    Uint32,
-    TWOLEVEL_HINT_SIZE
-)];
+const NOTE_COMMAND_TABLES: &[TableFields] = &tables! { note_command:
+    OFFSET, SIZE_OFFSET, Uint64, 1;
+};
+
+const TWOLEVEL_HINTS_COMMAND_TABLES: &[TableFields] = &tables! { twolevel_hints_command:
+    OFFSET, NHINTS, Uint32, loader::TWOLEVEL_HINT_SIZE;
+};
+// registry: end
 
 // What a structure has.
 #[derive(Clone, Copy)]
@@ -264,23 +239,27 @@ impl Structure {
         ensures { IsLayoutOf self result }
     {
         match self {
-            Structure::SymtabCommand => layout!(24, tables SYMTAB_TABLES),
-            Structure::DysymtabCommand => layout!(80, tables DYSYMTAB_TABLES),
+            // registry: layouts
+            Structure::SymtabCommand => layout!(24, tables SYMTAB_COMMAND_TABLES),
+            Structure::DysymtabCommand => layout!(80, tables DYSYMTAB_COMMAND_TABLES),
             Structure::DylibCommand => layout!(24, name),
             Structure::DylinkerCommand => layout!(12, name),
             Structure::RpathCommand => layout!(12, name),
             Structure::SegmentCommand64 => {
-                layout!(SEGMENT_COMMAND_64_SIZE, records NSECTS, SECTION_64_SIZE)
+                layout!(72, records segment_command_64::NSECTS, loader::SECTION_64_SIZE)
             }
             Structure::UuidCommand => layout!(24),
-            Structure::LinkeditDataCommand => {
-                layout!(LINKEDIT_DATA_COMMAND_SIZE, tables LINKEDIT_DATA_TABLES)
+            Structure::LinkeditDataCommand => layout!(16, tables LINKEDIT_DATA_COMMAND_TABLES),
+            Structure::DyldInfoCommand => layout!(48, tables DYLD_INFO_COMMAND_TABLES),
+            Structure::EncryptionInfoCommand64 => {
+                layout!(24, tables ENCRYPTION_INFO_COMMAND_64_TABLES)
             }
-            Structure::DyldInfoCommand => layout!(48, tables DYLD_INFO_TABLES),
-            Structure::EncryptionInfoCommand64 => layout!(24, tables ENCRYPTION_INFO_TABLES),
-            Structure::NoteCommand => layout!(40, tables NOTE_TABLES),
-            Structure::BuildVersionCommand => layout!(24, records NTOOLS, BUILD_TOOL_VERSION_SIZE),
+            Structure::NoteCommand => layout!(40, tables NOTE_COMMAND_TABLES),
+            Structure::BuildVersionCommand => {
+                layout!(24, records build_version_command::NTOOLS, loader::BUILD_TOOL_VERSION_SIZE)
+            }
             Structure::EntryPointCommand => layout!(24),
+            // registry: end
         }
     }
 
@@ -318,18 +297,26 @@ impl Structure {
     }
 }
 
+// The judged command with the greatest number of those without the bit `LC_REQ_DYLD`.
+// registry: last command
+const LAST_WITHOUT_BIT: u32 = LC_BUILD_VERSION;
+// registry: end
+
 /// How many load commands there are of which an image has at most one.
+// registry: unique count
 pub const UNIQUE_COUNT: usize = 5;
+// registry: end
 
 /// The structure of a command with this `cmd`, or `None` where it is not judged.
 pub fn structure_of(cmd: u32) -> Option<Structure>
     ensures { result ≡ structure_of cmd }
 {
     // No judged command has a number in this range, which the match would look through.
-    if cmd > LC_BUILD_VERSION && cmd < LC_REQ_DYLD {
+    if cmd > LAST_WITHOUT_BIT && cmd < LC_REQ_DYLD {
         return None;
     }
     match cmd {
+        // registry: structures of commands
         LC_SYMTAB => Some(Structure::SymtabCommand),
         LC_DYSYMTAB => Some(Structure::DysymtabCommand),
         LC_LOAD_DYLIB
@@ -338,9 +325,7 @@ pub fn structure_of(cmd: u32) -> Option<Structure>
         | LC_LOAD_WEAK_DYLIB
         | LC_REEXPORT_DYLIB
         | LC_LOAD_UPWARD_DYLIB => Some(Structure::DylibCommand),
-        LC_LOAD_DYLINKER | LC_ID_DYLINKER | LC_DYLD_ENVIRONMENT => {
-            Some(Structure::DylinkerCommand)
-        }
+        LC_LOAD_DYLINKER | LC_ID_DYLINKER | LC_DYLD_ENVIRONMENT => Some(Structure::DylinkerCommand),
         LC_RPATH => Some(Structure::RpathCommand),
         LC_SEGMENT_64 => Some(Structure::SegmentCommand64),
         LC_UUID => Some(Structure::UuidCommand),
@@ -357,6 +342,7 @@ pub fn structure_of(cmd: u32) -> Option<Structure>
         LC_NOTE => Some(Structure::NoteCommand),
         LC_BUILD_VERSION => Some(Structure::BuildVersionCommand),
         LC_MAIN => Some(Structure::EntryPointCommand),
+        // registry: end
         _ => None,
     }
 }
@@ -368,8 +354,12 @@ pub fn unlisted_tables(cmd: u32) -> &'static [TableFields]
     ensures inside { All (AreFieldsInside LINKEDIT_DATA_COMMAND_SIZE) result.now }
 {
     match cmd {
-        LC_TWOLEVEL_HINTS => HINT_TABLES,
-        LC_ATOM_INFO | LC_FUNCTION_VARIANTS | LC_FUNCTION_VARIANT_FIXUPS => LINKEDIT_DATA_TABLES,
+        // registry: tables of other commands
+        LC_ATOM_INFO | LC_FUNCTION_VARIANTS | LC_FUNCTION_VARIANT_FIXUPS => {
+            LINKEDIT_DATA_COMMAND_TABLES
+        }
+        LC_TWOLEVEL_HINTS => TWOLEVEL_HINTS_COMMAND_TABLES,
+        // registry: end
         _ => &[],
     }
 }
@@ -381,11 +371,13 @@ pub fn unique_index(cmd: u32) -> Option<usize>
     ensures inside { IfSome result (λ index. index < UNIQUE_COUNT) }
 {
     match cmd {
+        // registry: unique commands
         LC_SYMTAB => Some(0),
         LC_DYSYMTAB => Some(1),
         LC_ID_DYLIB => Some(2),
         LC_UUID => Some(3),
         LC_MAIN => Some(4),
+        // registry: end
         _ => None,
     }
 }

@@ -13,25 +13,34 @@ use std::fmt::{InlineText, Write};
 /// profiles before it. The number of a profile never changes, and 0 is the number of none.
 #[derive(Clone, Copy, Debug, PartialEq, Eq)]
 pub enum Profile {
-    /// What `macho_rules::verify` judges: a loader stays inside the file.
+    // registry: profiles
+    /// A loader that follows the headers and checks no bounds reads only bytes of the slice.
     Layout = 1,
-    /// What `macho_strict::verify_strictly` judges besides: every byte is accounted for.
+    /// Every nonzero byte is accounted for, and no byte belongs to two elements, such as the headers, a section or a
+    /// table.
     Strict = 2,
-    /// The linked profile of docs/LINKED.md, which says what judges it: a loader that follows the opcodes of
-    /// `LC_DYLD_INFO` stays in the segments that it can write.
+    /// The rules judge where the linked data of an image lies; what the opcodes of `LC_DYLD_INFO` and
+    /// `LC_DYLD_INFO_ONLY`, the table of `LC_DYLD_CHAINED_FIXUPS` and the chains of pointers in the pages ask a dynamic
+    /// loader for; what the image exports; where functions start and data is in code; how a code signature is built;
+    /// what symbols and relocations refer to; where threads begin; and what all other commands of `loader.h` hold.
     Linked = 3,
-    /// What `macho_sealed::verify_sealed` judges besides: the code signature has the hashes of the bytes before it.
+    /// Each image has a code signature; each code directory has the hashes of all bytes before the signature and of the
+    /// blobs in special slots; and each nonzero byte from the signature on is in the signature's header, its index or a
+    /// blob. The profile does not say who signed, and it reads nothing outside of the file.
     Sealed = 4,
+    // registry: end
 }
 
 // The name of a profile with what comes after it, as `name_before` of a rule.
 macro_rules! profile_name_before {
     ($profile:expr, $end:literal) => {
         match $profile {
+            // registry: names of profiles
             Profile::Layout => concat!("layout", $end),
             Profile::Strict => concat!("strict", $end),
             Profile::Linked => concat!("linked", $end),
             Profile::Sealed => concat!("sealed", $end),
+            // registry: end
         }
     };
 }
@@ -39,10 +48,12 @@ macro_rules! profile_name_before {
 impl Profile {
     /// All profiles, in the order of judgment.
     pub const ALL: &'static [Profile] = &[
+        // registry: list of profiles
         Profile::Layout,
         Profile::Strict,
         Profile::Linked,
         Profile::Sealed,
+        // registry: end
     ];
 
     /// The name of the profile, in lower case.
@@ -94,6 +105,7 @@ impl Profile {
 /// stands.
 #[derive(Clone, Copy, Debug, PartialEq, Eq)]
 pub enum Rule {
+    // registry: rules
     /// The file begins with the magic number of no format that is read.
     Magic = 1,
     /// The header or the table of a universal file ends past the end of the file.
@@ -172,8 +184,7 @@ pub enum Rule {
     EncryptedRange = 38,
     /// A byte of a load command that is not zero lies past its fields, its records and its name.
     CommandSlack = 39,
-    /// A byte of a segment that is neither zero nor padding of code lies in no part that a structure
-    /// describes.
+    /// A byte of a segment that is neither zero nor padding of code lies in no part that a structure describes.
     UnclaimedByte = 40,
     /// A command for linked data is of a kind of an earlier one.
     TableRepeated = 41,
@@ -181,8 +192,8 @@ pub enum Rule {
     FunctionVariants = 42,
     /// A table of linked data is not where a loader finds it, or can change in memory.
     TableHome = 43,
-    /// There is linked data, and the header cannot be read in memory, or can be written, or is not where loaders
-    /// take the segment named `__TEXT` to be.
+    /// There is linked data, and the header cannot be read in memory, or can be written, or is not where loaders take
+    /// the segment named `__TEXT` to be.
     HeaderHome = 44,
     /// An opcode of the rebases is not known, or its operands do not end.
     RebaseOpcode = 45,
@@ -212,8 +223,8 @@ pub enum Rule {
     ChainTotal = 57,
     /// An import is from a library that the image does not load.
     ChainLibrary = 58,
-    /// A pointer of a chain does not end in its page and in the file bytes of its segment, or the next one
-    /// begins in it, or a kernel decrypts the segment.
+    /// A pointer of a chain does not end in its page and in the file bytes of its segment, or the next one begins in
+    /// it, or a kernel decrypts the segment.
     ChainSlot = 59,
     /// A pointer of a chain binds an import that is not there.
     ChainBind = 60,
@@ -231,8 +242,8 @@ pub enum Rule {
     FunctionNumber = 61,
     /// A function does not start in the file bytes of a mapped segment.
     FunctionStart = 62,
-    /// An entry of the data in code is cut, of a kind that is not known, or not in the file bytes of an
-    /// executable segment.
+    /// An entry of the data in code is cut, of a kind that is not known, or not in the file bytes of an executable
+    /// segment.
     DataInCode = 63,
     /// A blob of the code signature is not where it can be read, or does not begin as its magic number says.
     SignatureBlob = 69,
@@ -260,12 +271,14 @@ pub enum Rule {
     SignatureSlack = 80,
     /// The hash of a page or of a blob is not the one in a code directory.
     SignatureHash = 81,
+    // registry: end
 }
 
 // The name of a rule with what comes after it, so that one list serves every reader of names.
 macro_rules! name_before {
     ($rule:expr, $end:literal) => {
         match $rule {
+            // registry: names of rules
             Rule::Magic => concat!("magic", $end),
             Rule::FatTruncated => concat!("fat-truncated", $end),
             Rule::FatSliceOutside => concat!("fat-slice-outside", $end),
@@ -347,6 +360,7 @@ macro_rules! name_before {
             Rule::DirectoryRepeated => concat!("directory-repeated", $end),
             Rule::SignatureSlack => concat!("signature-slack", $end),
             Rule::SignatureHash => concat!("signature-hash", $end),
+            // registry: end
         }
     };
 }
@@ -354,6 +368,7 @@ macro_rules! name_before {
 impl Rule {
     /// All rules, in the order of judgment.
     pub const ALL: &'static [Rule] = &[
+        // registry: list of rules
         Rule::Magic,
         Rule::FatTruncated,
         Rule::FatSliceOutside,
@@ -435,6 +450,7 @@ impl Rule {
         Rule::DirectoryRepeated,
         Rule::SignatureSlack,
         Rule::SignatureHash,
+        // registry: end
     ];
 
     /// The name of the rule in reports, in lower case.
@@ -481,7 +497,7 @@ impl Rule {
         ensures { result ≡ profile_of self }
     {
         match self {
-            // The file, an image and its commands, and what these name.
+            // registry: profiles of rules
             Rule::Magic
             | Rule::FatTruncated
             | Rule::FatSliceOutside
@@ -490,25 +506,25 @@ impl Rule {
             | Rule::FatOverlap
             | Rule::FatDuplicate
             | Rule::FatSliceMagic
-            | Rule::FatEmpty => Profile::Layout,
-            Rule::HeaderTruncated
+            | Rule::FatEmpty
+            | Rule::HeaderTruncated
             | Rule::ArchMismatch
             | Rule::FileType
-            | Rule::CommandsOutside
-            | Rule::CommandWalk
+            | Rule::CommandsOutside => Profile::Layout,
+            Rule::CommandWalk
             | Rule::CommandShort
             | Rule::CommandRepeated
             | Rule::DylibId
-            | Rule::Name => Profile::Layout,
-            Rule::SegmentAddress
+            | Rule::Name
+            | Rule::SegmentAddress
             | Rule::SegmentSize
             | Rule::SegmentFile
             | Rule::SegmentOverlap
             | Rule::SectionAddress
             | Rule::SectionFile
             | Rule::SectionRelocs
-            | Rule::TableRange
-            | Rule::SymbolGroup
+            | Rule::TableRange => Profile::Layout,
+            Rule::SymbolGroup
             | Rule::SymbolName
             | Rule::SymbolSection
             | Rule::IndirectIndex
@@ -522,11 +538,48 @@ impl Rule {
             | Rule::EncryptedRange
             | Rule::CommandSlack
             | Rule::UnclaimedByte => Profile::Strict,
+            Rule::TableRepeated
+            | Rule::FunctionVariants
+            | Rule::TableHome
+            | Rule::HeaderHome
+            | Rule::RebaseOpcode
+            | Rule::RebaseSlot
+            | Rule::RebaseTotal
+            | Rule::BindOpcode
+            | Rule::BindLibrary
+            | Rule::BindSymbol
+            | Rule::BindSlot
+            | Rule::BindTotal
+            | Rule::BindNames => Profile::Linked,
+            Rule::ChainHeader
+            | Rule::ChainStarts
+            | Rule::ChainImports
+            | Rule::ChainTotal
+            | Rule::ChainLibrary
+            | Rule::ChainSlot
+            | Rule::ChainBind
+            | Rule::ExportNode
+            | Rule::ExportTotal
+            | Rule::ExportTerminal
+            | Rule::ExportLibrary
+            | Rule::ExportAddress
+            | Rule::FunctionNumber => Profile::Linked,
+            Rule::FunctionStart
+            | Rule::DataInCode
+            | Rule::SignatureBlob
+            | Rule::SignatureDirectory
+            | Rule::SignatureWhole
+            | Rule::SymbolLibrary
+            | Rule::SymbolValue
+            | Rule::SymbolIndirect
+            | Rule::Relocation
+            | Rule::Thread
+            | Rule::CommandContent => Profile::Linked,
             Rule::SignatureMissing
             | Rule::DirectoryRepeated
             | Rule::SignatureSlack
             | Rule::SignatureHash => Profile::Sealed,
-            _ => Profile::Linked,
+            // registry: end
         }
     }
 

@@ -13,7 +13,7 @@ use Rattle.macho_tables.specs.Memory.{bytes_from, IsKept}
 use Rattle.macho_tables.specs.Segments.{is_writable, IsLinkedit}
 use Rattle.macho_linked.specs.Steps.{step_at, AreSteps}
 use Rattle.macho_linked.specs.declared.cursor.Cursor.{Cursor}
-use Rattle.macho_linked.specs.declared.opcode.TheConstants as opcode
+use Rattle.macho_fields.specs.declared.header.loader.TheConstants as opcode
 use Rattle.macho_linked.specs.declared.step.Opcodes.{Opcodes}
 use Rattle.macho_linked.specs.declared.step.Opcodes.TheVariants as opcodes
 use Rattle.macho_linked.specs.declared.step.Step.{Step}

@@ -1,4 +1,3 @@
-pub mod Opcodes
 pub mod Steps
 pub mod Cursor
 pub mod Streams

@@ -10,7 +10,6 @@ use Rattle.macho_tables.specs.DataTables.{IsDataTable}
 use Rattle.macho_tables.specs.FunctionStarts.{function_starts}
 use Rattle.macho_tables.specs.StartNumbers.{IsFileAddress}
 use Rattle.macho_tables.specs.declared.data_in_code.DataInCodeEntry.{DataInCodeEntry}
-use Rattle.macho_tables.specs.declared.data_in_code.TheConstants as dice
 use Rattle.macho_spans.specs.declared.span.Span.{Span}
 
 -- the kind of the entry has a meaning, and its bytes, if it has some, are all in the file bytes of one segment
@@ -27,7 +26,7 @@ pub record IsLocated (image : List ℕ) : Type 0 where
       → All (IsFileAddress image) (function_starts (part table.start table.len image) base)
   -- the data in code is whole entries, each of which is where it should be
   pub entries : (table : Span) → IsDataTable image loader.LC_DATA_IN_CODE table
-      → (count : ℕ) × (table.len ≡ count * dice.DATA_IN_CODE_ENTRY_SIZE)
+      → (count : ℕ) × (table.len ≡ count * loader.DATA_IN_CODE_ENTRY_SIZE)
       × ((k : ℕ) → k < count → IsLocatedEntry image (entry_at (part table.start table.len image) (entry_place k)))
 
 -- of a file: each 64-bit slice is such an image

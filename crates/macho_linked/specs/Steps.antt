@@ -5,7 +5,7 @@ use Rattle.std.specs.List.{list_all}
 use Rattle.std.specs.Option.{option_map, option_and_then}
 use Rattle.macho_fields.specs.Field.{string_from}
 use Rattle.macho_tables.specs.Numbers.{unsigned_at, signed_at}
-use Rattle.macho_linked.specs.declared.opcode.TheConstants as opcode
+use Rattle.macho_fields.specs.declared.header.loader.TheConstants as opcode
 use Rattle.macho_tables.specs.declared.limits.TheConstants as size
 use Rattle.macho_linked.specs.declared.step.Opcodes.{Opcodes}
 use Rattle.macho_linked.specs.declared.step.Opcodes.TheVariants as opcodes

@@ -12,16 +12,9 @@ ghost use Rattle.macho_signature.specs.Signed.{AreSigned};
 ghost use Rattle.macho_exports.specs.ExportLaw.{HasSoundExports};
 ghost use Rattle.macho_linked.specs.Harmless.{AreHarmless};
 ghost use Rattle.macho_linked.specs.Located.{AreLocated};
-ghost use Rattle.macho_linked.specs.Opcodes.{AreOpcodeConstants};
 ghost use Rattle.macho_linked.specs.Rules.{IsFirstLinkedBroken, IsLinkedUnbroken};
 
 use macho_fields::Break;
-
-/// Each constant of `opcode` is the number that `mach-o/loader.h` defines, as `specs/Opcodes.antt` lists
-/// them.
-pub fn opcode_constants_are_those_of_the_header()
-    ensures { AreOpcodeConstants }
-{}
 
 /// A file has at most one first broken linked rule.
 pub fn first_linked_broken_is_one(file: &[u8], first: Break, other: Break)

@@ -6,7 +6,6 @@
 mod check;
 pub mod cursor;
 pub mod law;
-pub mod opcode;
 mod profile;
 pub mod step;
 pub mod stream;

@@ -6,7 +6,7 @@ ghost use Rattle.macho_fields.specs.Bytes.{bytes_of};
 ghost use Rattle.macho_linked.specs.Steps.{step_at as step_at_of, rebase_step as rebase_step_of, bind_step as bind_step_of, done_step as done_step_of, last_step as last_step_of, pointer_type as pointer_type_of, special_step as special_step_of, with_number, with_count_and_skip, with_addend, with_name};
 ghost use Rattle.macho_linked.specs.declared.step.Step.TheVariants as Step;
 
-use crate::opcode::*;
+use macho_fields::header::opcode::*;
 use macho_fields::{Bytes, Span};
 use macho_tables::limits::POINTER_SIZE;
 use macho_tables::numbers::{read_sleb, read_uleb};

@@ -4,7 +4,7 @@ use Rattle.std.specs.Prelude.{◌≡◌, ℕ, ◌==◌, List, take, Option, Some
 use Rattle.sha1.specs.Sha1.{sha1}
 use Rattle.sha2.specs.Sha256.{sha256}
 use Rattle.sha2.specs.Sha512.{sha384}
-use Rattle.macho_signature.specs.declared.cs_blobs.TheConstants as cs
+use Rattle.macho_fields.specs.declared.header.cs_blobs.TheConstants as cs
 use Rattle.macho_sealed.specs.declared.digest.Digest.{Digest}
 use Rattle.macho_sealed.specs.declared.digest.Digest.TheVariants as digests
 

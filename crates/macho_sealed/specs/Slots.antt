@@ -2,7 +2,7 @@
 use Rattle.std.specs.Prelude.{◌≡◌, ◌↔◌, ℕ, ◌+◌, ◌-◌, ◌<◌, ◌==◌, List, length, get_or, Bool, true, false, if◌then◌else◌}
 use Rattle.macho_sealed.specs.declared.slots.TheConstants as slots
 use Rattle.macho_signature.specs.Superblobs.{blob_at, is_directory_slot}
-use Rattle.macho_signature.specs.declared.cs_blobs.TheConstants as cs
+use Rattle.macho_fields.specs.declared.header.cs_blobs.TheConstants as cs
 
 -- they are counted from 0
 abbrev pub slot_number : ℕ → ℕ

@@ -7,7 +7,7 @@ use Rattle.macho_sealed.specs.Pages.{bytes_in}
 use Rattle.macho_signature.specs.Signature.{bytes_at}
 use Rattle.macho_signature.specs.Superblobs.{blob_at, blob_count}
 use Rattle.macho_signature.specs.declared.code_directory.CodeDirectory.{CodeDirectory}
-use Rattle.macho_signature.specs.declared.cs_blobs.TheConstants as cs
+use Rattle.macho_fields.specs.declared.header.cs_blobs.TheConstants as cs
 use Rattle.macho_spans.specs.declared.span.Span.{Span}
 use Rattle.macho_tables.specs.Items.{AtItem}
 

@@ -8,14 +8,12 @@ ghost use Rattle.macho_sealed.specs.Cdhashes.{cdhash, cdhash_at as cdhash_at_of,
 
 use crate::digest::Digest;
 use macho_fields::Bytes;
+use macho_fields::header::cs_blobs::CS_CDHASH_LEN;
 use macho_fields::header::loader::LC_CODE_SIGNATURE;
 use macho_image::Image;
 use macho_signature::{CodeDirectory, Superblob};
 use macho_tables::data_table::data_table;
 use std::marker::Model;
-
-/// How many bytes of a digest `codesign` prints as the cdhash.
-pub const CS_CDHASH_LEN: u64 = 20;
 
 /// The cdhash of a blob, whole: the digest of all its bytes, by the type of its hashes. It is `None` if the blob is no
 /// code directory, or its type is not known.

@@ -4,9 +4,9 @@
 ghost use Rattle.std.specs.Prelude.{◌≡◌, ◌↔◌, ◌≤◌, length, take, IsTrue};
 ghost use Rattle.macho_sealed.specs.Digests.{HasHash};
 
-use crate::cdhash::CS_CDHASH_LEN;
-use macho_signature::cs_blobs::{
-    CS_HASHTYPE_SHA1, CS_HASHTYPE_SHA256, CS_HASHTYPE_SHA256_TRUNCATED, CS_HASHTYPE_SHA384,
+use macho_fields::header::cs_blobs::{
+    CS_CDHASH_LEN, CS_HASHTYPE_SHA1, CS_HASHTYPE_SHA256, CS_HASHTYPE_SHA256_TRUNCATED,
+    CS_HASHTYPE_SHA384,
 };
 use sha1::Sha1;
 use sha2::{Digest as Hasher, Sha256, Sha384};

@@ -9,9 +9,9 @@ ghost use Rattle.macho_signature.specs.CodeDirectories.{HasSlots};
 ghost use Rattle.macho_spans.specs.Span.{end_of};
 
 use crate::directories::{Directories, have_page, one_of_size};
+use macho_fields::header::cs_blobs::MOST_PAGE_SIZE;
 use macho_fields::{Bytes, Span};
 use macho_signature::CodeDirectory;
-use macho_signature::cs_blobs::MOST_PAGE_SIZE;
 use macho_tables::place::lesser;
 
 // The first byte of the first page of an image of which a code directory has another hash. Those with pages of one size

@@ -4,7 +4,7 @@ ghost use Rattle.std.specs.Prelude.{◌≡◌, ◌<◌, true};
 ghost use Rattle.macho_sealed.specs.Slots.{slot_number as slot_number_of};
 ghost use Rattle.macho_signature.specs.Superblobs.{is_directory_slot};
 
-use macho_signature::cs_blobs::{
+use macho_fields::header::cs_blobs::{
     CSSLOT_ALTERNATE_CODEDIRECTORIES, CSSLOT_ALTERNATE_CODEDIRECTORY_MAX, CSSLOT_CODEDIRECTORY,
 };
 

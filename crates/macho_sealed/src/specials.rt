@@ -12,9 +12,9 @@ ghost use Rattle.macho_signature.specs.Superblobs.{AreGoodBlobs};
 use crate::digest::has_hash;
 use crate::directories::{Directories, have_special};
 use crate::signature::{blob_at, blob_bytes, superblob_of};
+use macho_fields::header::cs_blobs::{CSSLOT_ALTERNATE_CODEDIRECTORIES, CSSLOT_CODEDIRECTORY};
 use macho_fields::{Bytes, Span};
 use macho_signature::CodeDirectory;
-use macho_signature::cs_blobs::{CSSLOT_ALTERNATE_CODEDIRECTORIES, CSSLOT_CODEDIRECTORY};
 
 // The first blob of a signature in a special slot that a code directory has not, or of which it has another hash.
 pub(crate) fn first_other_special(signature: Bytes, directories: &Directories) -> Option<u64>

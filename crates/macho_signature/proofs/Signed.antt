@@ -11,7 +11,7 @@ use Rattle.macho_signature.specs.Signature.{IsDirectoryAt, bytes_at, HasMain, Ba
 use Rattle.macho_signature.specs.Signed.{IsPlacedBlob, CoversPages, IsSignature, IsSigned, page_of}
 use Rattle.macho_signature.specs.Superblobs.{superblob_at, blob_count, entry_offset, blob_at, blob_end, least_offset, HasNoSuperblob, IsMisplacedBlob, BadBlob, AreGoodBlobs}
 use Rattle.macho_signature.specs.declared.code_directory.CodeDirectory.{CodeDirectory}
-use Rattle.macho_signature.specs.declared.cs_blobs.TheConstants as cs
+use Rattle.macho_fields.specs.declared.header.cs_blobs.TheConstants as cs
 use Rattle.macho_signature.specs.declared.superblob.Blob.{Blob}
 use Rattle.macho_signature.specs.declared.superblob.Superblob.{Superblob}
 use Rattle.macho_signature.proofs.Pages.{page_in_slots, slot_has_page}

@@ -3,7 +3,7 @@ use Rattle.std.proofs.Common.{◌≡◌, ℕ, ◌+◌, ◌<◌, List, length, Bo
 use Rattle.std.specs.Prelude.{◌==◌, ◌&&◌, nat_le}
 use Rattle.std.proofs.lemmas.Bool.{cases_eq, cases_lt, and_parts, le-leb, leb-true, lt-leb, eq-eqb, eqb-true}
 use Rattle.macho_signature.specs.Superblobs.{big_word, superblob_at, blob_count, entry_offset, blob_end, has_superblob, is_placed, HasNoSuperblob, IsMisplacedBlob}
-use Rattle.macho_signature.specs.declared.cs_blobs.TheConstants as cs
+use Rattle.macho_fields.specs.declared.header.cs_blobs.TheConstants as cs
 use Rattle.macho_signature.specs.declared.superblob.Blob.{Blob}
 use Rattle.macho_signature.specs.declared.superblob.Superblob.{Superblob}
 

@@ -8,7 +8,7 @@ use Rattle.macho_tables.specs.Items.{AtItem}
 use Rattle.macho_signature.specs.Signature.{HasMain, IsUnsound, IsPartial, BadDirectory, PartialDirectory, AreGoodDirectories}
 use Rattle.macho_signature.specs.Superblobs.{blob_count, entry_offset, blob_at, least_offset, blob_end, HasNoSuperblob, IsBadBlob, BadBlob, AreGoodBlobs}
 use Rattle.macho_signature.specs.Surveys.{AreDirectories, AreNextDirectories, AreLeastInSignature, directories_before, survey_of}
-use Rattle.macho_signature.specs.declared.cs_blobs.TheConstants as cs
+use Rattle.macho_fields.specs.declared.header.cs_blobs.TheConstants as cs
 use Rattle.macho_signature.specs.declared.survey.Directories.{Directories}
 use Rattle.macho_signature.specs.declared.survey.SignatureSurvey.{SignatureSurvey}
 use Rattle.macho_tables.proofs.Items.{noted_item, items_rise}

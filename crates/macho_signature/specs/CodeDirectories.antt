@@ -5,7 +5,7 @@ use Rattle.std.specs.Int.{div_ceil}
 use Rattle.macho_fields.specs.Field.{HasZero}
 use Rattle.macho_signature.specs.Superblobs.{big_word, big_long}
 use Rattle.macho_signature.specs.declared.code_directory.CodeDirectory.{CodeDirectory}
-use Rattle.macho_signature.specs.declared.cs_blobs.TheConstants as cs
+use Rattle.macho_fields.specs.declared.header.cs_blobs.TheConstants as cs
 
 -- the bytes of the fields of a version
 abbrev pub fields_size : ℕ → ℕ

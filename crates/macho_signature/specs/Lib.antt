@@ -1,4 +1,3 @@
-pub mod CsBlobs
 pub mod Superblobs
 pub mod CodeDirectories
 pub mod Signature

@@ -6,7 +6,7 @@ use Rattle.macho_fields.specs.declared.header.loader.TheConstants as loader
 use Rattle.macho_signature.specs.CodeDirectories.{code_directory, IsSoundDirectory}
 use Rattle.macho_tables.specs.Items.{AtItem}
 use Rattle.macho_signature.specs.Superblobs.{blob_count, entry_offset, blob_at, blob_bytes, is_directory_slot, BadBlob, AreGoodBlobs}
-use Rattle.macho_signature.specs.declared.cs_blobs.TheConstants as cs
+use Rattle.macho_fields.specs.declared.header.cs_blobs.TheConstants as cs
 use Rattle.macho_spans.specs.declared.span.Span.{Span}
 use Rattle.macho_tables.specs.DataTables.{IsDataTable}
 

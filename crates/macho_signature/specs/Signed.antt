@@ -8,7 +8,7 @@ use Rattle.macho_signature.specs.CodeDirectories.{code_directory}
 use Rattle.macho_signature.specs.Signature.{IsDirectoryAt, bytes_at, HasMain}
 use Rattle.macho_signature.specs.Superblobs.{blob_count, entry_offset, blob_at, blob_end}
 use Rattle.macho_signature.specs.declared.code_directory.CodeDirectory.{CodeDirectory}
-use Rattle.macho_signature.specs.declared.cs_blobs.TheConstants as cs
+use Rattle.macho_fields.specs.declared.header.cs_blobs.TheConstants as cs
 use Rattle.macho_spans.specs.declared.span.Span.{Span}
 use Rattle.macho_tables.specs.DataTables.{IsDataTable}
 

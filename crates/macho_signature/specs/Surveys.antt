@@ -5,7 +5,7 @@ use Rattle.macho_fields.specs.FirstPlace.{IsNoted, IsLeastPlace}
 use Rattle.macho_tables.specs.Items.{AtItem}
 use Rattle.macho_signature.specs.Signature.{HasMain, IsUnsound, IsPartial, BadDirectory, PartialDirectory, BreaksSignatureBlob, BreaksSignatureDirectory, BreaksSignatureWhole}
 use Rattle.macho_signature.specs.Superblobs.{entry_offset, blob_at, BadBlob}
-use Rattle.macho_signature.specs.declared.cs_blobs.TheConstants as cs
+use Rattle.macho_fields.specs.declared.header.cs_blobs.TheConstants as cs
 use Rattle.macho_signature.specs.declared.survey.Directories.{Directories}
 use Rattle.macho_signature.specs.declared.survey.SignatureSurvey.{SignatureSurvey}
 

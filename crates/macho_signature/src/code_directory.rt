@@ -5,8 +5,8 @@ ghost use Rattle.macho_fields.specs.Bytes.{bytes_of};
 ghost use Rattle.macho_fields.specs.Field.{HasZero};
 ghost use Rattle.macho_signature.specs.CodeDirectories.{fields_size as fields_size_of, size_of_hash as size_of_hash_of, slots_of as slots_of_limit, version_of, is_directory as is_directory_of, scatter_offset as scatter_offset_of, team_offset as team_offset_of, code_limit as code_limit_of, HasName};
 
-use crate::cs_blobs::*;
 use crate::superblob::{MAGIC, word_at};
+use macho_fields::header::cs_blobs::*;
 use macho_fields::{Bytes, Order, Span};
 
 /// The offset of `CS_CodeDirectory.version`.

@@ -2,14 +2,8 @@
 //! nothing when it is called: the premises are its `requires`, the conclusion its `ensures`.
 
 ghost use Rattle.std.specs.Prelude.{ℕ};
-ghost use Rattle.macho_signature.specs.CsBlobs.{AreCsBlobsConstants};
 ghost use Rattle.macho_signature.specs.Signature.{BreaksSignatureBlob, BreaksSignatureDirectory, BreaksSignatureWhole};
 ghost use Rattle.macho_signature.specs.Signed.{IsSigned};
-
-/// Each constant of `cs_blobs` is the number that `cs_blobs.h` defines, as `specs/CsBlobs.antt` lists them.
-pub fn cs_blobs_constants_are_those_of_the_header()
-    ensures { AreCsBlobsConstants }
-{}
 
 /// The code signature of an image that breaks none of the three rules has its blobs in place, and code directories
 /// whose hashes are of all bytes before it.

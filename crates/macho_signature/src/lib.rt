@@ -2,7 +2,6 @@
 //! The code signature of an image: its superblob, the blobs in it, and the code directories among these.
 
 pub mod code_directory;
-pub mod cs_blobs;
 pub mod law;
 pub mod superblob;
 pub mod survey;

@@ -5,7 +5,7 @@ ghost use Rattle.std.specs.Prelude.{◌≡◌, ◌+◌, ◌≤◌, length};
 ghost use Rattle.macho_fields.specs.Bytes.{bytes_of};
 ghost use Rattle.macho_signature.specs.Superblobs.{big_word, entry_offset as entry_offset_of};
 
-use crate::cs_blobs::{
+use macho_fields::header::cs_blobs::{
     CS_BLOB_INDEX_SIZE, CS_GENERIC_BLOB_SIZE, CS_SUPER_BLOB_SIZE, CSMAGIC_EMBEDDED_SIGNATURE,
     CSSLOT_ALTERNATE_CODEDIRECTORIES, CSSLOT_ALTERNATE_CODEDIRECTORY_MAX, CSSLOT_CODEDIRECTORY,
 };

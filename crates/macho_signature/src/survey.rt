@@ -6,9 +6,9 @@ ghost use Rattle.macho_signature.specs.CodeDirectories.{IsSound};
 ghost use Rattle.macho_signature.specs.Surveys.{AreLeastInSignature};
 
 use crate::code_directory::CodeDirectory;
-use crate::cs_blobs::CSSLOT_CODEDIRECTORY;
 use crate::superblob::{Blob, Superblob, entry_offset};
 use macho_fields::Bytes;
+use macho_fields::header::cs_blobs::CSSLOT_CODEDIRECTORY;
 use macho_fields::header::loader::LC_CODE_SIGNATURE;
 use macho_image::Image;
 use macho_tables::data_table::data_table;

@@ -1,11 +1,7 @@
 -- The flags of the header of an image. (mach-o/loader.h: mach_header_64)
 use Rattle.std.specs.Prelude.{◌≡◌, ◌≢◌, ℕ, List, bit_and}
 use Rattle.macho_fields.specs.Image.{word}
-use Rattle.macho_symbols.specs.declared.header.TheConstants as header
-
--- The constants, as one number each: MH_..
-pub record AreHeaderConstants : Type 0 where
-  pub MH_TWOLEVEL : header.MH_TWOLEVEL ≡ 0x80
+use Rattle.macho_fields.specs.declared.header.loader.TheConstants as header
 
 -- mach_header_64: flags at 24
 abbrev pub flags : List ℕ → ℕ

@@ -2,15 +2,8 @@
 use Rattle.std.specs.Prelude.{◌≡◌, ◌≢◌, ℕ, ◌/◌, ◌^◌, ◌<◌, ◌⊎◌, bit_and}
 use Rattle.macho_fields.specs.declared.header.nlist.TheConstants.{N_STAB, N_TYPE}
 use Rattle.macho_image.specs.declared.symbol.Symbol.{Symbol}
+use Rattle.macho_fields.specs.declared.header.nlist.TheConstants as nlist
 use Rattle.macho_symbols.specs.declared.nlist.TheConstants as nlist
-
--- The constants, as one number each: N_.. and the ordinals that name no library by its number
-pub record AreNlistConstants : Type 0 where
-  pub N_UNDF : nlist.N_UNDF ≡ 0
-  pub N_INDR : nlist.N_INDR ≡ 0xa
-  pub N_PBUD : nlist.N_PBUD ≡ 0xc
-  pub DYNAMIC_LOOKUP_ORDINAL : nlist.DYNAMIC_LOOKUP_ORDINAL ≡ 0xfe
-  pub EXECUTABLE_ORDINAL : nlist.EXECUTABLE_ORDINAL ≡ 0xff
 
 -- n_type: the symbol is no debugging entry (N_STAB), and has the type (N_TYPE)
 abbrev pub HasType : ℕ → Symbol → Type 0

@@ -4,11 +4,6 @@ use Rattle.macho_fields.specs.Image.{word}
 use Rattle.macho_symbols.specs.declared.reloc.TheConstants as reloc
 use Rattle.macho_symbols.specs.declared.reloc.Relocation.{Relocation}
 
--- The constants, as one number each: ARM64_RELOC_.., and the r_length of 8 bytes
-pub record AreRelocConstants : Type 0 where
-  pub ARM64_RELOC_ADDEND : reloc.ARM64_RELOC_ADDEND ≡ 10
-  pub POINTER_LENGTH : reloc.POINTER_LENGTH ≡ 3
-
 -- relocation_info: r_address at 0; in the word at 4, from its lowest bit on, r_symbolnum of 24 bits, r_pcrel of
 -- 1, r_length of 2, r_extern of 1, r_type of 4
 abbrev pub relocation_at : List ℕ → ℕ → Relocation

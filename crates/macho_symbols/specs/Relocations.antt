@@ -9,7 +9,7 @@ use Rattle.macho_fields.specs.declared.header.machine.TheConstants.{CPU_TYPE_ARM
 use Rattle.macho_fields.specs.declared.header.reloc.TheConstants.{RELOCATION_INFO_SIZE}
 use Rattle.macho_image.specs.Segment.{sections_of}
 use Rattle.macho_symbols.specs.Reloc.{relocation_at}
-use Rattle.macho_symbols.specs.declared.reloc.TheConstants.{ARM64_RELOC_ADDEND, POINTER_LENGTH}
+use Rattle.macho_fields.specs.declared.header.reloc.TheConstants.{ARM64_RELOC_ADDEND, POINTER_LENGTH}
 use Rattle.macho_symbols.specs.declared.reloc.Relocation.{Relocation}
 use Rattle.macho_symbols.specs.declared.relocations.Owner.{Owner}
 use Rattle.macho_symbols.specs.declared.relocations.Owner.TheVariants as owners

@@ -6,7 +6,7 @@ use Rattle.macho_symbols.specs.Addresses.{AreNearAddresses}
 use Rattle.macho_symbols.specs.Header.{IsTwoLevel}
 use Rattle.macho_symbols.specs.Nlist.{HasType}
 use Rattle.macho_symbols.specs.Sections.{AreMappedSections}
-use Rattle.macho_symbols.specs.declared.nlist.TheConstants.{N_INDR}
+use Rattle.macho_fields.specs.declared.header.nlist.TheConstants.{N_INDR}
 use Rattle.macho_symbols.specs.declared.symbols.Limits.{Limits}
 use Rattle.macho_tables.specs.Limits.{library_count}
 

@@ -10,7 +10,7 @@ use Rattle.macho_symbols.specs.Addresses.{IsNearSegment}
 use Rattle.macho_symbols.specs.Header.{IsTwoLevel}
 use Rattle.macho_symbols.specs.Nlist.{HasType, NamesNoLibrary}
 use Rattle.macho_symbols.specs.Sections.{IsMappedSection}
-use Rattle.macho_symbols.specs.declared.nlist.TheConstants.{N_INDR}
+use Rattle.macho_fields.specs.declared.header.nlist.TheConstants.{N_INDR}
 use Rattle.macho_symbols.specs.declared.symbols.SymbolSurvey.{SymbolSurvey}
 use Rattle.macho_tables.specs.Limits.{library_count}
 

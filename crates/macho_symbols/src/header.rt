@@ -4,11 +4,9 @@ ghost use Rattle.std.specs.Prelude.{◌↔◌, IsTrue};
 ghost use Rattle.macho_symbols.specs.Header.{IsTwoLevel};
 
 use macho_fields::Order;
+use macho_fields::header::loader::MH_TWOLEVEL;
 use macho_fields::header::loader::mach_header_64::FLAGS;
 use macho_image::Image;
-
-/// The flag of an image whose undefined symbols each name the library that they are from.
-pub const MH_TWOLEVEL: u32 = 0x80;
 
 /// Whether the undefined symbols of the image name libraries.
 pub fn is_two_level(image: &Image) -> bool

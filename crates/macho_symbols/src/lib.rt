@@ -4,7 +4,6 @@
 mod addresses;
 pub mod few_spans;
 pub mod header;
-pub mod law;
 pub mod nlist;
 pub mod reloc;
 pub mod relocations;

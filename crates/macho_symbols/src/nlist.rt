@@ -3,20 +3,10 @@
 ghost use Rattle.std.specs.Prelude.{◌≡◌, ◌↔◌, IsTrue};
 ghost use Rattle.macho_symbols.specs.Nlist.{HasType, IsImported, library_ordinal as library_ordinal_of, NamesNoLibrary};
 
-use macho_fields::header::nlist::{N_STAB, N_TYPE};
+use macho_fields::header::nlist::{
+    DYNAMIC_LOOKUP_ORDINAL, EXECUTABLE_ORDINAL, N_PBUD, N_STAB, N_TYPE, N_UNDF,
+};
 use macho_image::Symbol;
-
-/// The type of a symbol that another image defines, or, if its value is not 0, of a common symbol.
-pub const N_UNDF: u8 = 0x0;
-/// The type of a symbol that is another name of the one whose name begins at `n_value` in the strings.
-pub const N_INDR: u8 = 0xa;
-/// The type of a symbol that another image defines, in a prebound image.
-pub const N_PBUD: u8 = 0xc;
-
-/// The library ordinal of a symbol that is looked for in all images.
-pub const DYNAMIC_LOOKUP_ORDINAL: u16 = 0xfe;
-/// The library ordinal of a symbol of the program that loads the image.
-pub const EXECUTABLE_ORDINAL: u16 = 0xff;
 
 /// Whether the symbol is no debugging entry, and has the type.
 pub fn has_type(symbol: Symbol, wanted: u8) -> bool

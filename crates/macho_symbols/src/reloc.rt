@@ -7,12 +7,6 @@ ghost use Rattle.macho_symbols.specs.Reloc.{relocation_at};
 use macho_fields::header::reloc::RELOCATION_INFO_SIZE;
 use macho_fields::{Bytes, Order};
 
-/// The type of a relocation of 64-bit ARM processors whose `r_symbolnum` is a number to add, and names nothing.
-pub const ARM64_RELOC_ADDEND: u8 = 10;
-
-/// The `r_length` of a relocation of 8 bytes, 2 to the power 3.
-pub const POINTER_LENGTH: u8 = 3;
-
 /// A relocation. (`relocation_info`)
 #[derive(Clone, Copy, Debug, PartialEq, Eq)]
 pub struct Relocation {

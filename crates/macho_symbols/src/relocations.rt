@@ -9,10 +9,10 @@ ghost use Rattle.macho_symbols.specs.Relocations.{AtRelocation, IsBadOf, InSecti
 ghost use Rattle.macho_symbols.specs.RelocationTables.{IsNamed, HoldsTable};
 ghost use Rattle.macho_symbols.specs.declared.relocations.Owner.TheVariants as owners;
 
-use crate::reloc::{ARM64_RELOC_ADDEND, POINTER_LENGTH, Relocation};
+use crate::reloc::Relocation;
 use macho_fields::Bytes;
 use macho_fields::header::machine::CPU_TYPE_ARM64;
-use macho_fields::header::reloc::RELOCATION_INFO_SIZE;
+use macho_fields::header::reloc::{ARM64_RELOC_ADDEND, POINTER_LENGTH, RELOCATION_INFO_SIZE};
 use macho_image::Image;
 use macho_rules::symbol_count;
 use macho_tables::place::lesser;

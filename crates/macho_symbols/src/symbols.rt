@@ -2,8 +2,9 @@
 
 use crate::addresses::NearAddresses;
 use crate::header::is_two_level;
-use crate::nlist::{N_INDR, has_type, names_no_library};
+use crate::nlist::{has_type, names_no_library};
 use crate::sections::MappedSections;
+use macho_fields::header::nlist::N_INDR;
 use macho_image::{Image, Symbol};
 use macho_rules::{name_limit, symbol_count};
 use macho_tables::limits::library_count;

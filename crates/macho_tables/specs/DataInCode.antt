@@ -9,20 +9,10 @@ use Rattle.macho_tables.specs.DataTables.{InDataTable}
 use Rattle.macho_tables.specs.Homes.{bytes_of_segment}
 use Rattle.macho_tables.specs.Items.{AtItem}
 use Rattle.macho_tables.specs.Kinds.{is_one_of}
-use Rattle.macho_tables.specs.declared.data_in_code.TheConstants as dice
 use Rattle.macho_tables.specs.declared.data_in_code.DataInCodeEntry.{DataInCodeEntry}
 use Rattle.macho_spans.specs.Span.{IsInside}
 use Rattle.macho_spans.specs.declared.span.Span.{Span}
 use Rattle.macho_strict.specs.Unclaimed.{is_code}
-
--- The constants, as one number each: the size of an entry, and DICE_KIND_..
-pub record AreDataInCodeConstants : Type 0 where
-  pub DATA_IN_CODE_ENTRY_SIZE : dice.DATA_IN_CODE_ENTRY_SIZE ≡ 8
-  pub DICE_KIND_DATA : dice.DICE_KIND_DATA ≡ 1
-  pub DICE_KIND_JUMP_TABLE8 : dice.DICE_KIND_JUMP_TABLE8 ≡ 2
-  pub DICE_KIND_JUMP_TABLE16 : dice.DICE_KIND_JUMP_TABLE16 ≡ 3
-  pub DICE_KIND_JUMP_TABLE32 : dice.DICE_KIND_JUMP_TABLE32 ≡ 4
-  pub DICE_KIND_ABS_JUMP_TABLE32 : dice.DICE_KIND_ABS_JUMP_TABLE32 ≡ 5
 
 -- data_in_code_entry: offset at 0, length of 2 bytes at 4, kind of 2 bytes at 6
 abbrev pub entry_at : List ℕ → ℕ → DataInCodeEntry
@@ -36,8 +26,8 @@ entry_at bytes place = record {
 abbrev pub is_known_kind : ℕ → Bool
 is_known_kind =
     is_one_of
-    (dice.DICE_KIND_DATA ∷ dice.DICE_KIND_JUMP_TABLE8 ∷ dice.DICE_KIND_JUMP_TABLE16
-    ∷ dice.DICE_KIND_JUMP_TABLE32 ∷ dice.DICE_KIND_ABS_JUMP_TABLE32 ∷ [])
+    (loader.DICE_KIND_DATA ∷ loader.DICE_KIND_JUMP_TABLE8 ∷ loader.DICE_KIND_JUMP_TABLE16
+    ∷ loader.DICE_KIND_JUMP_TABLE32 ∷ loader.DICE_KIND_ABS_JUMP_TABLE32 ∷ [])
 
 -- what the entry describes: so many bytes of the image, from the offset on
 abbrev pub bytes_of_entry : DataInCodeEntry → Span
@@ -57,15 +47,15 @@ IsBadEntry image entry = (is_known_kind entry.kind ≡ false) ⊎ LiesOutsideCod
 
 -- the size of the table is no multiple of that of an entry
 abbrev pub HasRest : List ℕ → Type 0
-HasRest table = length table % dice.DATA_IN_CODE_ENTRY_SIZE ≢ 0
+HasRest table = length table % loader.DATA_IN_CODE_ENTRY_SIZE ≢ 0
 
 -- how many whole entries it has
 abbrev pub entry_count : List ℕ → ℕ
-entry_count table = length table / dice.DATA_IN_CODE_ENTRY_SIZE
+entry_count table = length table / loader.DATA_IN_CODE_ENTRY_SIZE
 
 -- where an entry is
 abbrev pub entry_place : ℕ → ℕ
-entry_place k = k * dice.DATA_IN_CODE_ENTRY_SIZE
+entry_place k = k * loader.DATA_IN_CODE_ENTRY_SIZE
 
 -- the rule of an image and the bytes of its table
 abbrev pub BadEntry : List ℕ → List ℕ → ℕ → Type 0

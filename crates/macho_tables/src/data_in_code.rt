@@ -13,28 +13,13 @@ use crate::code_parts::CodeParts;
 use crate::data_table::data_table;
 use crate::fields::{half_at, word_at};
 use crate::place::place_from;
-use macho_fields::header::loader::LC_DATA_IN_CODE;
+use macho_fields::header::loader::{
+    DATA_IN_CODE_ENTRY_SIZE, DICE_KIND_ABS_JUMP_TABLE32, DICE_KIND_DATA, DICE_KIND_JUMP_TABLE8,
+    DICE_KIND_JUMP_TABLE16, DICE_KIND_JUMP_TABLE32, LC_DATA_IN_CODE,
+};
 use macho_fields::{Bytes, Span};
 use macho_image::Image;
 use std::alloc::{AllocError, Global};
-
-/// Any data.
-pub const DICE_KIND_DATA: u16 = 1;
-
-/// A table of jumps, of entries of 8 bits.
-pub const DICE_KIND_JUMP_TABLE8: u16 = 2;
-
-/// One of entries of 16 bits.
-pub const DICE_KIND_JUMP_TABLE16: u16 = 3;
-
-/// One of entries of 32 bits.
-pub const DICE_KIND_JUMP_TABLE32: u16 = 4;
-
-/// One of entries of 32 bits that are addresses.
-pub const DICE_KIND_ABS_JUMP_TABLE32: u16 = 5;
-
-/// The size in bytes of `data_in_code_entry`.
-pub const DATA_IN_CODE_ENTRY_SIZE: u64 = 8;
 
 // The offsets of its fields.
 const OFFSET: u64 = 0;

@@ -11,7 +11,6 @@ pub mod file_bytes;
 pub mod function_starts;
 pub mod homes;
 pub mod kinds;
-pub mod law;
 pub mod limits;
 pub mod mapped_addresses;
 pub mod numbers;

@@ -6,7 +6,7 @@ use Rattle.macho_sealed.specs.Cdhashes.{image_cdhashes}
 use Rattle.macho_sealed.specs.Digests.{bytes_of_digest}
 use Rattle.macho_sealed.specs.declared.digest.Digest.{Digest}
 use Rattle.macho_sealed.specs.declared.digest.Digest.TheVariants as digests
-use Rattle.macho_sealed.specs.declared.cdhash.TheConstants as cdhash
+use Rattle.macho_fields.specs.declared.header.cs_blobs.TheConstants as cdhash
 
 -- the word of a type of hashes
 abbrev pub type_word : Digest → List ℕ

@@ -5,30 +5,12 @@ ghost use Rattle.std.specs.Prelude.{◌≡◌, ◌≤◌, length, if◌then◌el
 ghost use Rattle.macho_fields.specs.Bytes.{bytes_of};
 ghost use Rattle.macho_fields.specs.Universal.{has_wide_entries, entry_count, table_end, IsUniversal};
 
-use macho_fields::header::fat::{FAT_ARCH_64_SIZE, FAT_ARCH_SIZE, FAT_HEADER_SIZE, FAT_MAGIC_64};
+use macho_fields::header::fat::fat_header::NFAT_ARCH;
+use macho_fields::header::fat::{
+    FAT_ARCH_64_SIZE, FAT_ARCH_SIZE, FAT_HEADER_SIZE, FAT_MAGIC_64, fat_arch, fat_arch_64,
+};
 use macho_fields::header::machine::CPU_SUBTYPE_MASK;
 use macho_fields::{Break, Bytes, Order, Rule, Span};
-
-// `fat_header.nfat_arch`
-pub(super) const NFAT_ARCH: u64 = 4;
-
-// `fat_arch.cpusubtype`, `fat_arch_64.cpusubtype`
-const CPUSUBTYPE: u64 = 4;
-
-// `fat_arch.offset`, `fat_arch_64.offset`
-const OFFSET: u64 = 8;
-
-// `fat_arch.size`
-const SIZE: u64 = 12;
-
-// `fat_arch_64.size`
-const SIZE_64: u64 = 16;
-
-// `fat_arch.align`
-const ALIGN: u64 = 16;
-
-// `fat_arch_64.align`
-const ALIGN_64: u64 = 24;
 
 // The entries of a universal file whose table lies inside the file.
 #[derive(Clone, Copy)]
@@ -101,7 +83,7 @@ impl<'a> Entries<'a> {
         ensures { Some result ≡ (entry_slice (bytes_of self.entry.file) k).arch }
     {
         let place = self.place(k);
-        let subtype = self.file.read_u32(Order::Big, place + CPUSUBTYPE);
+        let subtype = self.file.read_u32(Order::Big, place + fat_arch::CPUSUBTYPE);
         (
             self.file.read_u32(Order::Big, place),
             subtype & !CPU_SUBTYPE_MASK,
@@ -117,13 +99,13 @@ impl<'a> Entries<'a> {
         let place = self.place(k);
         if self.wide {
             Span {
-                start: self.file.read_u64(Order::Big, place + OFFSET),
-                len: self.file.read_u64(Order::Big, place + SIZE_64),
+                start: self.file.read_u64(Order::Big, place + fat_arch_64::OFFSET),
+                len: self.file.read_u64(Order::Big, place + fat_arch_64::SIZE),
             }
         } else {
             Span {
-                start: u64::from(self.file.read_u32(Order::Big, place + OFFSET)),
-                len: u64::from(self.file.read_u32(Order::Big, place + SIZE)),
+                start: u64::from(self.file.read_u32(Order::Big, place + fat_arch::OFFSET)),
+                len: u64::from(self.file.read_u32(Order::Big, place + fat_arch::SIZE)),
             }
         }
     }
@@ -133,7 +115,11 @@ impl<'a> Entries<'a> {
         requires { k < entry_count (bytes_of self.file) }
         ensures { result ≡ entry_align (bytes_of self.entry.file) k }
     {
-        let field = if self.wide { ALIGN_64 } else { ALIGN };
+        let field = if self.wide {
+            fat_arch_64::ALIGN
+        } else {
+            fat_arch::ALIGN
+        };
         self.file.read_u32(Order::Big, self.place(k) + field)
     }
 

@@ -12,7 +12,8 @@ ghost use Rattle.macho_fields.specs.Universal.{OverlapsEarlierSlice, RepeatsEarl
 ghost use Rattle.macho_fields.specs.Universal.{IsUniversal, IsImage, IsUnreadImage, IsForeign};
 ghost use Rattle.macho_fields.specs.declared.rule.Rule.{Rule};
 
-use super::entries::{Entries, NFAT_ARCH};
+use super::entries::Entries;
+use macho_fields::header::fat::fat_header::NFAT_ARCH;
 use macho_fields::header::fat::{FAT_MAGIC, FAT_MAGIC_64};
 use macho_fields::header::loader::{MH_MAGIC, MH_MAGIC_64};
 use macho_fields::{Break, Bytes, Order, Rule};
