@@ -16,12 +16,14 @@ from ._names import (
 from ._output import GREEN, RED, Output, coloured, say
 from ._reports import reason_text, shown
 from ._structures import LISTED, STRUCTURES
-from .constants import LC_DYSYMTAB, LC_ID_DYLIB, LC_SYMTAB
+from .constants import (
+    LC_BUILD_VERSION, LC_DYSYMTAB, LC_ID_DYLIB, LC_MAIN, LC_SEGMENT_64, LC_SYMTAB, LC_UUID, LC_VERSION_MIN_IPHONEOS,
+    LC_VERSION_MIN_MACOSX, LC_VERSION_MIN_TVOS, LC_VERSION_MIN_WATCHOS)
 
 SAME, DIFFERENT, NOT_COMPARED = range(3)
-# Those of which fields are compared, and not all bytes: LC_SEGMENT_64, LC_UUID, LC_BUILD_VERSION, LC_MAIN,
-# LC_VERSION_MIN_.., and libraries.
-READ = {0x19, 0x1B, 0x32, 0x8000_0028, 0x24, 0x25, 0x2F, 0x30, *LIBRARIES}
+# Those of which fields are compared, and not all bytes.
+READ = {LC_SEGMENT_64, LC_UUID, LC_BUILD_VERSION, LC_MAIN, LC_VERSION_MIN_MACOSX, LC_VERSION_MIN_IPHONEOS,
+        LC_VERSION_MIN_TVOS, LC_VERSION_MIN_WATCHOS, *LIBRARIES}
 # All but cmd and cmdsize.
 FIELDS = {cmd: [field.name for field in STRUCTURES[LISTED[cmd]][2:]] for cmd in (LC_SYMTAB, LC_DYSYMTAB)}
 # So many bytes of a command are shown, and of a longer one a hash.

@@ -17,13 +17,16 @@ from ._profiles import DEFAULT, PROFILES
 from ._rows import (
     Blob, Build, Command, DataInCode, Export, Library, NamedReader, Reader, Relocation, Section, Segment, Symbol, Table,
     WalkedReader)
-from .constants import LC_LOAD_DYLINKER, LC_RPATH
+from .constants import (
+    CPU_SUBTYPE_ARM64_ALL, CPU_SUBTYPE_ARM64E, CPU_SUBTYPE_X86_64_ALL, CPU_SUBTYPE_X86_64_H, CPU_TYPE_ARM64,
+    CPU_TYPE_X86_64, LC_LOAD_DYLINKER, LC_RPATH)
 
 # Room for the layout of most files. A longer one takes a second call.
 LAYOUT_ROOM = 1 << 14
 
 ARCHITECTURES = {
-    (0x100_0007, 3): "x86_64", (0x100_0007, 8): "x86_64h", (0x100_000C, 0): "arm64", (0x100_000C, 2): "arm64e"}
+    (CPU_TYPE_X86_64, CPU_SUBTYPE_X86_64_ALL): "x86_64", (CPU_TYPE_X86_64, CPU_SUBTYPE_X86_64_H): "x86_64h",
+    (CPU_TYPE_ARM64, CPU_SUBTYPE_ARM64_ALL): "arm64", (CPU_TYPE_ARM64, CPU_SUBTYPE_ARM64E): "arm64e"}
 
 
 class Refused(Exception):

@@ -3,7 +3,8 @@
 from __future__ import annotations
 
 from . import constants
-from .constants import LC_ID_DYLIB
+from .constants import (
+    LC_ID_DYLIB, LC_LAZY_LOAD_DYLIB, LC_LOAD_DYLIB, LC_LOAD_UPWARD_DYLIB, LC_LOAD_WEAK_DYLIB, LC_REEXPORT_DYLIB)
 
 # PLATFORM_*, for LC_BUILD_VERSION.
 PLATFORMS = {
@@ -25,8 +26,9 @@ JUDGED_FILETYPES = [number for name, number in vars(constants).items() if name.s
 
 # What an image has to do with a library that it names.
 LIBRARIES = {
-    LC_ID_DYLIB: "its own name", 0xC: "loaded", 0x8000_0018: "loaded if it is there", 0x8000_001F: "re-exported",
-    0x20: "loaded when it is needed", 0x8000_0023: "loaded, upward"}
+    LC_ID_DYLIB: "its own name", LC_LOAD_DYLIB: "loaded", LC_LOAD_WEAK_DYLIB: "loaded if it is there",
+    LC_REEXPORT_DYLIB: "re-exported", LC_LAZY_LOAD_DYLIB: "loaded when it is needed",
+    LC_LOAD_UPWARD_DYLIB: "loaded, upward"}
 
 # The load commands.
 COMMANDS = {number: name for name, number in vars(constants).items() if name.startswith("LC_")}
@@ -41,7 +43,8 @@ BIND_OPCODES = (
     "DO_BIND", "DO_BIND_ADD_ADDR_ULEB", "DO_BIND_ADD_ADDR_IMM_SCALED", "DO_BIND_ULEB_TIMES_SKIPPING_ULEB")
 
 # CS_HASHTYPE_*: the words in which `macho-verify sealed` prints them.
-HASH_TYPES = {1: "sha1", 2: "sha256", 3: "sha256-truncated", 4: "sha384"}
+HASH_TYPES = {number: name[len("CS_HASHTYPE_"):].lower().replace("_", "-")
+              for name, number in vars(constants).items() if name.startswith("CS_HASHTYPE_")}
 
 # VM_PROT_READ, VM_PROT_WRITE and VM_PROT_EXECUTE.
 PROTECTIONS = ("read", "write", "execute")

@@ -14,7 +14,9 @@ from ._layout import plain
 from ._names import FILETYPES, LIBRARIES, command_name, protection_text
 from ._structures import LISTED, UNLISTED, number_in, size_of, structure_of
 from .constants import (
-    LC_BUILD_VERSION, LC_ENCRYPTION_INFO_64, LC_ID_DYLIB, LC_LOAD_DYLINKER, LC_NOTE, LC_RPATH, LC_SEGMENT_64)
+    LC_BUILD_VERSION, LC_DYLD_ENVIRONMENT, LC_DYLIB_CODE_SIGN_DRS, LC_ENCRYPTION_INFO_64, LC_ID_DYLIB, LC_ID_DYLINKER,
+    LC_LINKER_OPTIMIZATION_HINT, LC_LOAD_DYLINKER, LC_NOTE, LC_RPATH, LC_SEGMENT_64, S_GB_ZEROFILL,
+    S_THREAD_LOCAL_ZEROFILL, S_ZEROFILL, VM_PROT_EXECUTE)
 
 # fat.h: an entry of a universal file, by its magic number: cputype, cpusubtype, offset, size, align.
 FAT_ENTRIES = {b"\xca\xfe\xba\xbe": Struct(">5I"), b"\xca\xfe\xba\xbf": Struct(">2I2Q2I")}
@@ -24,11 +26,10 @@ MH_MAGIC_64 = b"\xcf\xfa\xed\xfe"
 HEADER, COMMAND = Struct("<8I"), Struct("<2I")
 COMMAND_ALIGN = 8
 SEGMENT, SECTION = Struct("<24x4Q3I4x"), Struct("<32x2Q5I12x")
-ZERO_FILL_TYPES = {0x1, 0xC, 0x12}
-EXECUTE = 4
+ZERO_FILL_TYPES = {S_ZEROFILL, S_GB_ZEROFILL, S_THREAD_LOCAL_ZEROFILL}
 RELOCATION_SIZE = 8
 # Which commands have a name, whose offset is the word after cmdsize.
-NAMED = {*LIBRARIES, LC_LOAD_DYLINKER, 0xF, LC_RPATH, 0x27}
+NAMED = {*LIBRARIES, LC_LOAD_DYLINKER, LC_ID_DYLINKER, LC_RPATH, LC_DYLD_ENVIRONMENT}
 
 Range = Tuple[int, int]
 
@@ -60,7 +61,8 @@ TABLES_OF_STRUCTURES: Dict[str, Tuple[TableForm, ...]] = {
     "twolevel_hints_command": (TableForm("two-level hints", "offset", "nhints", 4),)}
 # The data of a linkedit_data_command has the name of its command in words, as LC_DYLD_EXPORTS_TRIE an exports trie. The
 # names of these have other words.
-LINKEDIT_DATA = {0x2B: "code signing requirements", 0x2E: "optimization hints"}
+LINKEDIT_DATA = {
+    LC_DYLIB_CODE_SIGN_DRS: "code signing requirements", LC_LINKER_OPTIMIZATION_HINT: "optimization hints"}
 
 
 def _tables_of(cmd: int, structure: str) -> Tuple[TableForm, ...]:
@@ -326,7 +328,7 @@ def _rest(data: memoryview, parts: List[Part]) -> Iterator[Part]:
     unknown = {part.slice for part in parts if part.kind == "broken walk"}
     claimed = merged(_range(part, data) for part in parts
                      if part.kind in ELEMENTS or (part.kind == "slice" and _is_unknown(part, unknown)))
-    code = merged(_range(part, data) for part in parts if part.initprot & EXECUTE)
+    code = merged(_range(part, data) for part in parts if part.initprot & VM_PROT_EXECUTE)
     slices = sorted((part.start, part.start + part.size, part.slice) for part in parts if part.kind == "slice")
     cuts = sorted({edge for part in parts if part.kind in ("slice", "segment") for edge in _range(part, data)})
     edges = [0, *chain.from_iterable(claimed), len(data)]
