@@ -47,7 +47,7 @@ FILL_TOOL = sed -e "1s|@PYTHON@|$(PYTHON)|; s|@LIB_FROM_HERE@|$$(realpath -ms --
 
 # On an empty input, each command builds its program, if it is not current, and the program refuses the input.
 all: lib
-	@top=. && . crates/macho_check/record.sh && for command in $(PROGRAMS); do \
+	@top=. && . packaging/record.sh && for command in $(PROGRAMS); do \
 	    take_program $$command && test "$$(./$$command $$judging </dev/null)" = "refused: magic at 0x0" || exit; \
 	done
 
@@ -64,9 +64,9 @@ install: install-programs install-lib
 
 install-programs: built
 	install -d $(TO_BIN) $(TO_MAN)/man1 $(TO_BASH) $(TO_ZSH) $(TO_FISH)
-	install -m 755 crates/macho_check/out/macho_check $(TO_BIN)/macho-check
-	install -m 755 crates/macho_verify/out/macho_verify $(TO_BIN)/macho-verify
-	for program in $(PROGRAMS); do install -m 644 man/$$program.1 $(TO_MAN)/man1 || exit; done
+	for program in $(PROGRAMS); do \
+	    install -m 755 build/programs/$$program $(TO_BIN) && install -m 644 man/$$program.1 $(TO_MAN)/man1 || exit; \
+	done
 	install -m 644 packaging/completions/macho-verify.bash $(TO_BASH)/macho-verify
 	install -m 644 packaging/completions/_macho-verify $(TO_ZSH)
 	install -m 644 packaging/completions/macho-verify.fish $(TO_FISH)

@@ -10,8 +10,8 @@ from .calling import TOP, Answer, call, shell
 
 # Each has the rules of those before it.
 PROFILES = ("layout", "strict", "linked", "sealed")
-MACHO_CHECK = TOP / "crates/macho_check/out/macho_check"
-MACHO_VERIFY = TOP / "crates/macho_verify/out/macho_verify"
+MACHO_CHECK = TOP / "build/programs/macho-check"
+MACHO_VERIFY = TOP / "build/programs/macho-verify"
 # What make builds and installs.
 PROGRAMS = {"macho-check": MACHO_CHECK, "macho-verify": MACHO_VERIFY}
 HEADER = TOP / "bindings/c/kesvuot.h"
@@ -23,8 +23,8 @@ NO_BYTES = b"refused: magic at 0x0\n"
 
 
 def with_record(line: str, name: str, **given) -> Answer:
-    """Runs a line of sh after take_program of crates/macho_check/record.sh, for a program or `libkesvuot`."""
-    return shell(f'top=$1 && . "$top/crates/macho_check/record.sh" && take_program "$2" && {line}', TOP, name, **given)
+    """Runs a line of sh after take_program of packaging/record.sh, for a program or `libkesvuot`."""
+    return shell(f'top=$1 && . "$top/packaging/record.sh" && take_program "$2" && {line}', TOP, name, **given)
 
 
 def is_built(command: str) -> bool:

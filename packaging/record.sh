@@ -1,10 +1,10 @@
 # shellcheck shell=sh disable=SC2034,SC2154 # ./macho-check and ./test read this, and set `top` first
 # The record of a built program: the kit, a hash of the sources, a hash of the program, and a stamp of the sources, one
 # per line. A program that is not as recorded is not run. The record guards against mistakes, not against someone who
-# can write to out/.
+# can write to build/. A built program is copied to build/programs, so that it runs while rt ci has put out/ away.
 
 # take_program NAME: sets the paths of the program of a command, or of the library in both its forms, and of its record;
-# and the words by which the program judges standard input.
+# where rt leaves the program; and the words by which the program judges standard input.
 take_program() {
     archive='' linking='' judging=''
     case $1 in
@@ -12,8 +12,9 @@ take_program() {
         macho-verify) crate=$top/crates/macho_verify judging="layout -" ;;
         libkesvuot) crate=$top/crates/macho_c ;;
     esac
-    program=$crate/out/${crate##*/}
-    kept=$crate/out/$1
+    made=$crate/out/${crate##*/}
+    program=$top/build/programs/$1
+    kept=$top/build/records/$1
     [ "$1" = libkesvuot ] || return 0
     program=$top/build/lib/libkesvuot.so.2
     archive=$top/build/lib/libkesvuot.a
@@ -81,6 +82,11 @@ begin_record() {
 # Whether the sources are still as noted. An edit that was undone during the build shows in the time of its change.
 is_unchanged() {
     [ "$(made_of)" = "$before" ] && [ -z "$(find_in_sources -cnewer "$started" -print)" ]
+}
+
+# Copies the program from where rt has left it. The last step is atomic.
+place_program() {
+    mkdir -p "${program%/*}" && cp -- "$made" "$program.new" && mv -f -- "$program.new" "$program"
 }
 
 # Records the program after it is built.
