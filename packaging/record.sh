@@ -26,11 +26,11 @@ hash_of_program() {
     cat -- "$program" ${archive:+"$archive"} 2>/dev/null | sha256sum
 }
 
-# Runs find over the sources of the program: all files of all crates, except the edits that must fail. A superfluous build
+# Runs find over the sources of the program: all files of all crates, except the mutants. A superfluous build
 # takes seconds, while a missing one would run an old program.
 find_in_sources() (
     # shellcheck disable=SC2086 # words
-    cd "$top" && find crates.txt $linking crates/*/* -regex 'crates/[^/]*/\(out\|must-fail\|more-must-fail\)' -prune -o "$@"
+    cd "$top" && find crates.txt $linking crates/*/* -regex 'crates/[^/]*/\(out\|must-fail\)' -prune -o "$@"
 )
 
 # Prints a hash of the names and contents of all sources. Only the name of a link counts; rt refuses links.
