@@ -1,6 +1,6 @@
-"""What registry/generate writes into the crates: the constants of the headers, the rules and the profiles, and the load
-commands and filetypes that are judged. It is laid out as `rt fmt` lays it out. The definitions of specs/ have all of
-it a second time, by hand, and the prover compares.
+"""What registry/generate writes into the crates: the constants of the headers, the rules and the profiles, the load
+commands and filetypes that are judged, and the names of commands and platforms. It is laid out as `rt fmt` lays it out.
+The definitions of specs/ have all of it a second time, by hand, and the prover compares.
 """
 
 from __future__ import annotations
@@ -218,6 +218,14 @@ def unique_count(table: Table) -> List[str]:
     return [f"pub const UNIQUE_COUNT: usize = {sum(it.once == 'yes' for it in table('commands'))};"]
 
 
+# names.rt of macho_c
+
+def named(name: str) -> Callable[[Table], List[str]]:
+    """The rows of a table, each name with the zero byte that C wants."""
+    return lambda table: [line for it in table(name) for line in (
+        "    Named {", f"        number: {rust_number(it.number)},", f'        name: "{it.name}\\0",', "    },")]
+
+
 FIELDS = "crates/macho_fields/src"
 
 
@@ -231,7 +239,8 @@ def marked(table: Table) -> Dict[str, Dict[str, Callable[[str], List[str]]]]:
         f"{FIELDS}/load_command.rt": {
             "structures": structures, "tables": structure_tables, "layouts": layouts, "unique count": unique_count,
             "last command": last_command, "structures of commands": command_structures,
-            "tables of other commands": unlisted_tables, "unique commands": unique_commands}}
+            "tables of other commands": unlisted_tables, "unique commands": unique_commands},
+        "crates/macho_c/src/names.rt": {"commands": named("commands"), "platforms": named("platforms")}}
     made = {path: {name: lambda _, maker=maker: maker(table) for name, maker in makers.items()}
             for path, makers in files.items()}
     for it in table("headers"):

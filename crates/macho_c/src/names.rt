@@ -180,6 +180,7 @@ fn first_named(table: &'static [Named], name: &[u8]) -> Option<Named>
 
 // The load commands.
 const COMMANDS: &[Named] = &[
+    // registry: commands
     Named {
         number: 0x1,
         name: "LC_SEGMENT\0",
@@ -412,10 +413,12 @@ const COMMANDS: &[Named] = &[
         number: 0x8000_0035,
         name: "LC_FILESET_ENTRY\0",
     },
+    // registry: end
 ];
 
 // The platforms of `build_version_command`.
 const PLATFORMS: &[Named] = &[
+    // registry: platforms
     Named {
         number: 1,
         name: "PLATFORM_MACOS\0",
@@ -464,6 +467,7 @@ const PLATFORMS: &[Named] = &[
         number: 12,
         name: "PLATFORM_VISIONOSSIMULATOR\0",
     },
+    // registry: end
 ];
 
 // The architectures, by their numbers.
