@@ -34,7 +34,7 @@ pub struct Slice {
 }
 
 /// The slices of a file, in order. The one slice of an image takes no memory.
-#[derive(Debug, Drop)]
+#[derive(Drop)]
 pub enum SliceList {
     /// That of a file that is one image: the whole of the file.
     One(Slice),

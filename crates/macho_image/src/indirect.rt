@@ -17,7 +17,7 @@ use macho_fields::header::loader::{
 use std::marker::Model;
 
 /// An entry of the indirect symbol table: 32 bits. (`indirectsymoff` of `dysymtab_command`)
-#[derive(Clone, Copy, Debug, PartialEq, Eq)]
+#[derive(Clone, Copy)]
 pub struct Indirect {
     /// Where it begins in the image.
     pub place: u64,

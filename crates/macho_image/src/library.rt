@@ -19,7 +19,7 @@ use std::marker::Model;
 /// A library that an image is linked with, or the image itself. (`dylib_command`)
 ///
 /// A version is X.Y.Z in the form `xxxx.yy.zz`, 16, 8 and 8 bits.
-#[derive(Clone, Copy, Debug)]
+#[derive(Clone, Copy)]
 pub struct Dylib<'a> {
     /// Where its command begins in the image.
     pub place: u64,

@@ -15,7 +15,7 @@ use macho_fields::{Bytes, Order};
 use std::marker::Model;
 
 /// An entry of the symbol table. (`nlist_64`)
-#[derive(Clone, Copy, Debug, PartialEq, Eq)]
+#[derive(Clone, Copy)]
 pub struct Symbol {
     /// Where it begins in the image.
     pub place: u64,

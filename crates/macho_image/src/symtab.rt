@@ -17,7 +17,7 @@ use macho_fields::header::loader::symtab_command::{NSYMS, STROFF, STRSIZE, SYMOF
 use macho_fields::{Bytes, Span};
 
 /// The `LC_SYMTAB` command: the tables of the symbols and of their names. (`symtab_command`)
-#[derive(Clone, Copy, Debug, PartialEq, Eq)]
+#[derive(Clone, Copy)]
 pub struct Symtab {
     /// Where its command begins in the image.
     pub place: u64,

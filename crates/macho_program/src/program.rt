@@ -40,7 +40,7 @@ pub enum Found {
 
 /// Why the program wrote no report, or not all of it. The texts are its lines, without the line
 /// feed.
-#[derive(Clone, Copy, Debug, PartialEq, Eq, Error)]
+#[derive(Clone, Copy, Debug, Error)]
 pub enum ProgramFault {
     /// The words ask for nothing.
     #[error(transparent)]

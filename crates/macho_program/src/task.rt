@@ -1,7 +1,7 @@
 //! What the words ask of a program, once they have been read.
 
 /// What the words ask of a program.
-#[derive(Debug, Drop)]
+#[derive(Drop)]
 pub enum Task<J> {
     /// To show this text of its own, such as its help.
     Show(&'static str),
@@ -10,7 +10,7 @@ pub enum Task<J> {
 }
 
 /// A question about a file.
-#[derive(Debug, Drop)]
+#[derive(Drop)]
 pub enum Question<J> {
     /// Does this judge accept it, and what is its layout?
     Verdict(J),

@@ -35,7 +35,7 @@ pub trait Tool<J: Judge> {
 }
 
 /// `macho-check`, which judges by the rules of the layout.
-#[derive(Clone, Copy, Debug, PartialEq, Eq)]
+#[derive(Clone, Copy)]
 pub struct MachoCheck;
 
 impl Tool<LayoutRules> for MachoCheck {

@@ -20,7 +20,7 @@ use thiserror::Error;
 pub const STANDARD_INPUT: &str = "-";
 
 /// What the program is asked to do.
-#[derive(Debug, Drop, PartialEq, Eq)]
+#[derive(Drop)]
 pub enum Request {
     /// Judge this file, and show its layout.
     Check {

@@ -4,7 +4,7 @@ ghost use Rattle.std.specs.Prelude.{◌≡◌, ◌+◌, ◌*◌, ◌↔◌, IsTr
 ghost use Rattle.macho_spans.specs.Span.{end_of, Holds, IsInside, Shares};
 
 /// The `len` places from `start` on. A span may end past the largest `u64`.
-#[derive(Clone, Copy, Debug, PartialEq, Eq, Hash)]
+#[derive(Clone, Copy, Debug, PartialEq, Eq)]
 pub struct Span {
     /// The first place.
     pub start: u64,

@@ -3,7 +3,7 @@
 use crate::span::Span;
 
 /// Whether some of a list of spans share a place, as far as the order of the spans shows it.
-#[derive(Clone, Copy, Debug)]
+#[derive(Clone, Copy)]
 pub enum Sharing {
     /// No two spans share a place.
     None,
@@ -14,7 +14,7 @@ pub enum Sharing {
 }
 
 /// The order in which spans come. Empty spans share nothing, and are skipped.
-#[derive(Clone, Copy, Debug)]
+#[derive(Clone, Copy)]
 pub struct SpanOrder {
     // The last span that is not empty.
     last: Span,
@@ -22,7 +22,7 @@ pub struct SpanOrder {
 }
 
 // In what order the nonempty spans come.
-#[derive(Clone, Copy, Debug)]
+#[derive(Clone, Copy)]
 enum Trend {
     // There is none.
     Empty,

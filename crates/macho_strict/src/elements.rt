@@ -16,7 +16,7 @@ use macho_image::{Command, Commands, Image, Section, Sections};
 use std::marker::Model;
 
 /// A part of an image that a structure describes.
-#[derive(Clone, Copy, Debug, PartialEq, Eq)]
+#[derive(Clone, Copy)]
 pub struct Element {
     /// Where it is described, as an offset in the image: 0 for the header and the commands, otherwise the
     /// `section_64` or the load command.

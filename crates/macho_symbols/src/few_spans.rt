@@ -9,7 +9,7 @@ use macho_image::Image;
 use macho_tables::file_bytes::FEW_SEGMENTS;
 
 // The addresses of a few mapped segments, in the order of the commands.
-#[derive(Clone, Copy, Debug)]
+#[derive(Clone, Copy)]
 pub(crate) struct FewSpans {
     // The first `count` are those of segments.
     pub(crate) spans: [Span; FEW_SEGMENTS],

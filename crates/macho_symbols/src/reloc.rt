@@ -8,7 +8,7 @@ use macho_fields::header::reloc::RELOCATION_INFO_SIZE;
 use macho_fields::{Bytes, Order};
 
 /// A relocation. (`relocation_info`)
-#[derive(Clone, Copy, Debug, PartialEq, Eq)]
+#[derive(Clone, Copy)]
 pub struct Relocation {
     /// `r_address`: the bits of a signed offset.
     pub address: u32,

@@ -18,7 +18,7 @@ use macho_rules::symbol_count;
 use macho_tables::place::lesser;
 
 /// What names a table of relocations.
-#[derive(Clone, Copy, Debug, PartialEq, Eq)]
+#[derive(Clone, Copy)]
 pub enum Owner {
     /// A section. (`section_64`)
     Section,
@@ -80,7 +80,7 @@ fn of_dysymtab(image: &Image, named: Named) -> Option<u64>
 }
 
 // A table of relocations.
-#[derive(Clone, Copy, Debug)]
+#[derive(Clone, Copy)]
 pub(crate) struct RelocationTable {
     // Where it begins in the image.
     pub(crate) start: u64,
@@ -114,7 +114,7 @@ impl RelocationTable {
 }
 
 /// What the relocations of an image can name.
-#[derive(Clone, Copy, Debug)]
+#[derive(Clone, Copy)]
 pub struct Named {
     /// How many symbols there are.
     pub symbols: u64,

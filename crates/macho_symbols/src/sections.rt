@@ -10,7 +10,7 @@ pub const SECTION_NUMBERS: usize = 256;
 
 /// For each number of a section that a symbol can have, whether the segment of the section is mapped. There is
 /// no section 0.
-#[derive(Clone, Copy, Debug)]
+#[derive(Clone, Copy)]
 pub struct MappedSections {
     pub(crate) are_mapped: [bool; SECTION_NUMBERS],
 }

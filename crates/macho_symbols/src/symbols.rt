@@ -12,7 +12,7 @@ use macho_tables::place::note_if;
 use std::alloc::{AllocError, Global};
 
 /// Where the symbols of an image first break each of their rules.
-#[derive(Clone, Copy, Debug)]
+#[derive(Clone, Copy)]
 pub struct SymbolSurvey {
     /// The first undefined symbol of an image with `MH_TWOLEVEL` that is from no library.
     pub library: Option<u64>,

@@ -29,7 +29,7 @@ const LENGTH: u64 = 4;
 const KIND: u64 = 6;
 
 /// Data in code. (`data_in_code_entry`)
-#[derive(Clone, Copy, Debug, PartialEq, Eq)]
+#[derive(Clone, Copy)]
 pub struct DataInCodeEntry {
     /// Where it begins in the image.
     pub offset: u32,

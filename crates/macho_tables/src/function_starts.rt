@@ -34,7 +34,7 @@ pub fn next_start(table: Bytes, address: u64) -> Option<(u64, u64)>
 }
 
 /// Where the functions of an image first break each of their rules.
-#[derive(Clone, Copy, Debug)]
+#[derive(Clone, Copy)]
 pub struct FunctionStartSurvey {
     /// Where a number should be and none of 64 bits is, or the first byte that is not 0 past the number 0 that
     /// ends the table.

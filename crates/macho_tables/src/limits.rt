@@ -18,7 +18,7 @@ pub const SEGMENTS: usize = 16;
 pub const SPECIAL_ORDINALS: u8 = 3;
 
 /// What can be written of the segments of an image.
-#[derive(Clone, Copy, Debug, PartialEq, Eq)]
+#[derive(Clone, Copy)]
 pub struct Rooms {
     /// How many bytes of each of the first segments can be written, from its start on.
     pub sizes: [u64; SEGMENTS],

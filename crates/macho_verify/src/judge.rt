@@ -13,7 +13,7 @@ use std::alloc::Global;
 
 /// Accepts the files that break no rule of the profiles up to this one, as [`verify_by`] decides. By the
 /// sealed profile the report has the cdhash of each code directory.
-#[derive(Clone, Copy, Debug, PartialEq, Eq)]
+#[derive(Clone, Copy)]
 pub struct ProfileRules {
     pub profile: Profile,
 }

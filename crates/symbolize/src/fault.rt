@@ -6,7 +6,7 @@ use std::io;
 use thiserror::Error;
 
 /// Why there is no line for an address.
-#[derive(Clone, Copy, Debug, PartialEq, Eq, Error)]
+#[derive(Clone, Copy, Debug, Error)]
 pub(crate) enum Fault {
     /// The words of the call are not a slice and addresses.
     #[error("usage: symbolize SLICE 0xADDRESS.. < FILE")]

@@ -49,8 +49,8 @@ const LISTS: &[(&str, &[Slice])] = &[
 fn lists_of_slices(rt: HostRuntime) {
     for &(bytes, wanted) in LISTS {
         let file = written(&rt, bytes);
-        let list = slices(rt.alloc(), Bytes::new(&file));
-        same(&rt, &list.as_ref().map(Vec::as_slice), &Ok(wanted));
+        let list = slices(rt.alloc(), Bytes::new(&file)).expect(&rt, "a list of slices");
+        same(&rt, &list.as_slice(), &wanted);
     }
 }
 

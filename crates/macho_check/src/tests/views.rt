@@ -94,7 +94,7 @@ fn words_of_the_groups(rt: HostRuntime) {
         nlocrel: 16,
     };
     same(&rt, &image.dysymtab(), &Some(groups));
-    same(&rt, &image.indirects().next(), &None);
+    same(&rt, &image.indirects().next().is_none(), &true);
 }
 
 /// The string table is 00 61 00 62, with a zero byte after it.
