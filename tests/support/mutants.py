@@ -1,5 +1,5 @@
-"""The mutants of the crates: wrong bodies that the prover must refuse. The gate tries crates/*/must-fail/*.edit. The others
-are in mutants.md there: a heading with the name of each, and the lines of its edit."""
+"""The mutants of the crates: wrong bodies that the prover must refuse. The gate tries crates/*/must-fail/*.edit. The
+others are in mutants.md there: a heading with the name of each, and the lines of its edit."""
 
 from __future__ import annotations
 
