@@ -1,11 +1,10 @@
 -- The items of a table, a range of them, and the item at an index.
-use Rattle.std.proofs.Common.{◌≡◌, ℕ, zero, suc, ◌+◌, ◌-◌, ◌*◌, ◌≤◌, ◌<◌, min, List, [], ◌∷◌, length, map, take, drop, true, Option, Some, None, refl, sym, ap, ap₂, ◌∙◌, subst, arith}
+use Rattle.std.proofs.Common.{◌≡◌, ℕ, zero, suc, ◌+◌, ◌-◌, ◌*◌, ◌≤◌, ◌<◌, min, List, [], ◌∷◌, length, map, take, drop, true, Option, Some, None, refl, sym, ap, ap₂, ◌∙◌, arith}
 use Rattle.std.specs.Prelude.{nat_le, slice_get}
 use Rattle.std.specs.List.{range_with_len}
 use Rattle.std.specs.Option.{MatchOption}
 use Rattle.std.proofs.lemmas.List.{drop-map, take-map}
 use Rattle.std.proofs.lemmas.Bool.{le-leb}
-use Rattle.std.proofs.lemmas.List.Elements.{All-nil}
 use Rattle.macho_image.specs.Symbol.{items_inside, items_from}
 use Rattle.macho_image.specs.Views.{HoldItems}
 
@@ -58,10 +57,6 @@ pub items-range : (each place left first count f m : ℕ) → f ≡ min first le
 items-range each place left first count f m first_is count_is =
     items-take each (place + each * f) (left - f) count m count_is ∙ ap (take count) (items-drop each place left first f first_is)
 
--- if there are none, all do
-pub none_held : (image : List ℕ) (each : ℕ) (items : List ℕ) → items ≡ [] → HoldItems image each items
-none_held image each items none = subst (HoldItems image each) (sym none) (All-nil (λ place. place + each ≤ length image))
-
 -- The items of any list
 
 -- what f reads of a range of them
@@ -80,7 +75,7 @@ head_is old new None none = ap (λ ys. slice_get ys 0) (sym none.0)
 head_is old new (Some x) steps = ap (λ ys. slice_get ys 0) (sym steps)
 
 -- what is first in a range of one item is the item at the index
-pub item_read : {X Y : Type 0} (g : X → Y) (all : List X) (i : ℕ) (old new : List Y) (r : Option Y) → old ≡ map g (take 1 (drop i all))
-    → MatchOption r ((old ≡ []) × (new ≡ [])) (λ y. old ≡ y ∷ new) → r ≡ slice_get (map g all) i
-item_read g all i old new r is steps =
-    head_is old new r steps ∙ (ap (λ ys. slice_get ys 0) (is ∙ sym (range-map g all i 1)) ∙ head_of_range (map g all) i)
+pub item_at : {X : Type 0} (all : List X) (i : ℕ) (old new : List X) (r : Option X) → old ≡ take 1 (drop i all)
+    → MatchOption r ((old ≡ []) × (new ≡ [])) (λ x. old ≡ x ∷ new) → r ≡ slice_get all i
+item_at all i old new r is steps =
+    head_is old new r steps ∙ (ap (λ ys. slice_get ys 0) is ∙ head_of_range all i)

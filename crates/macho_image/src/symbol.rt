@@ -1,18 +1,16 @@
 //! The symbols of an opened image. (`mach-o/nlist.h`: `nlist_64`)
 
 ghost use Rattle.std.specs.Prelude.{◌≡◌, ◌+◌, ◌≤◌, length, ◌↔◌, IsTrue, map, take, drop, slice_get};
-ghost use Rattle.std.specs.Iterator.{YieldsFirst, item_count};
 ghost use Rattle.macho_fields.specs.Bytes.{bytes_of};
 ghost use Rattle.macho_fields.specs.Image.{commands_of};
 ghost use Rattle.macho_fields.specs.Symbol.{IsSectionType};
-ghost use Rattle.macho_image.specs.Symbol.{symbol_at, items_inside, symbols_of};
+ghost use Rattle.macho_image.specs.Symbol.{symbol_at, symbols_of};
 
 use crate::command::{long_at, word_at};
 use crate::image::Image;
-use crate::items::Items;
+use crate::table::{TableEntries, TableEntry};
 use macho_fields::header::nlist::{N_SECT, N_STAB, N_TYPE, NLIST_64_SIZE};
 use macho_fields::{Bytes, Order};
-use std::marker::Model;
 
 /// An entry of the symbol table. (`nlist_64`)
 #[derive(Clone, Copy)]
@@ -41,64 +39,31 @@ impl Symbol {
     }
 }
 
-/// The symbols of an image that remain, in the order of the table.
-#[derive(Drop)]
-pub struct Symbols<'a> {
-    image: Bytes<'a>,
-    items: Items,
-}
-
-impl<'a> Model for Symbols<'a> {
-    ghost use Rattle.std.specs.Prelude.{List, map};
-    ghost use Rattle.macho_fields.specs.Bytes.{bytes_of};
+impl TableEntry for Symbol {
     ghost use Rattle.macho_fields.specs.declared.header.nlist.TheConstants.{NLIST_64_SIZE};
-    ghost use Rattle.macho_image.specs.declared.symbol.Symbol.{Symbol};
     ghost use Rattle.macho_image.specs.Symbol.{symbol_at};
-    ghost use Rattle.macho_image.specs.Views.{HoldItems};
 
-    ghost Value = { List Symbol };
+    ghost SIZE = { NLIST_64_SIZE };
 
-    ghost view = { λ symbols. map (symbol_at (bytes_of symbols.image)) symbols.items };
+    ghost entry_at = { symbol_at };
 
-    ghost invariant = { λ symbols. HoldItems (bytes_of symbols.image) NLIST_64_SIZE symbols.items };
-}
+    const SIZE: u64 = NLIST_64_SIZE;
 
-impl<'a> Iterator for Symbols<'a> {
-    type Item = Symbol;
-
-    ghost next_gives = { YieldsFirst (λ left. left) };
-
-    ghost remaining = { item_count (λ left. left) };
-
-    fn next(&mut self) -> Option<Symbol> {
-        let place = self.items.next()?;
-        Some(symbol_from(self.image, place))
-    }
-}
-
-impl<'a> Symbols<'a> {
-    /// The `count` symbols of the table that begins at `place`, in its order. Empty if the table
-    /// does not lie inside the image.
-    pub fn in_table(image: Bytes<'a>, place: u64, count: u64) -> Symbols<'a>
-        ensures { result ≡ map (symbol_at (bytes_of image.entry))
-            (items_inside (bytes_of image.entry) place NLIST_64_SIZE count) }
-    {
-        Symbols {
-            image,
-            items: Items::inside(image, place, count, NLIST_64_SIZE),
-        }
-    }
-
-    /// Up to `count` symbols, starting at index `first`. It does not scan the symbols before them.
-    pub fn range(&self, first: u64, count: u64) -> Symbols<'a>
-        ensures { result ≡ take count (drop first self.now) }
-    {
-        Symbols {
-            image: self.image,
-            items: self.items.range(first, count),
+    #[inline]
+    fn read(image: Bytes, place: u64) -> Symbol {
+        Symbol {
+            place,
+            strx: word_at(image, place),
+            kind: image.read_u8(place + TYPE_OFFSET),
+            sect: image.read_u8(place + SECT_OFFSET),
+            desc: image.read_u16(Order::Little, place + DESC_OFFSET),
+            value: long_at(image, place + VALUE_OFFSET),
         }
     }
 }
+
+/// The symbols of an image that remain, in the order of the table.
+pub type Symbols<'a> = TableEntries<'a, Symbol>;
 
 impl<'a> Image<'a> {
     /// The `nsyms` symbols of `LC_SYMTAB`, in the order of the table. Empty if the table does not
@@ -106,12 +71,10 @@ impl<'a> Image<'a> {
     pub fn symbols(&self) -> Symbols<'a>
         ensures { result ≡ map (symbol_at self.now) (symbols_of self.now (commands_of self.now)) }
     {
-        let image = self.bytes();
-        let items = match self.symtab() {
-            Some(table) => Items::inside(image, table.symoff, table.nsyms, NLIST_64_SIZE),
-            None => Items::none(),
-        };
-        Symbols { image, items }
+        match self.symtab() {
+            Some(table) => Symbols::in_table(self.bytes(), table.symoff, table.nsyms),
+            None => Symbols::none(self.bytes()),
+        }
     }
 
     /// Up to `count` symbols, starting at index `first` of the table. It does not scan the symbols
@@ -129,7 +92,7 @@ impl<'a> Image<'a> {
         ensures { result ≡ slice_get (map (symbol_at self.now)
             (symbols_of self.now (commands_of self.now))) index }
     {
-        self.symbol_range(index, 1).next()
+        self.symbols().get(index)
     }
 }
 
@@ -141,18 +104,3 @@ const SECT_OFFSET: u64 = 5;
 const DESC_OFFSET: u64 = 6;
 
 const VALUE_OFFSET: u64 = 8;
-
-// The symbol at `place`.
-fn symbol_from(image: Bytes, place: u64) -> Symbol
-    requires { place + NLIST_64_SIZE ≤ length (bytes_of image) }
-    ensures { result ≡ symbol_at (bytes_of image.entry) place }
-{
-    Symbol {
-        place,
-        strx: word_at(image, place),
-        kind: image.read_u8(place + TYPE_OFFSET),
-        sect: image.read_u8(place + SECT_OFFSET),
-        desc: image.read_u16(Order::Little, place + DESC_OFFSET),
-        value: long_at(image, place + VALUE_OFFSET),
-    }
-}

@@ -1,4 +1,4 @@
-use Rattle.std.proofs.Common.{◌≡◌, ◌∙◌, ap, sym}
+use Rattle.std.proofs.Common.{◌∙◌, ap, sym}
 use Rattle.std.proofs.lemmas.Bool.{false≢true}
 use Rattle.macho_fields.specs.Bytes.{bytes_of}
 use Rattle.macho_image.specs.Command.{CommandView, command_of}
