@@ -26,7 +26,7 @@ use macho_fields::header::fixup_chains::{
 };
 use macho_fields::header::loader::LC_DYLD_CHAINED_FIXUPS;
 use macho_fields::{Bytes, Order, Rule, Span};
-use macho_linked::stream::Limits;
+use macho_opcodes::stream::Limits;
 
 // The table of chained fixups, its bytes, and what its header says.
 #[derive(Clone, Copy)]

@@ -20,7 +20,7 @@ use macho_exports::export_trie::{Export, ExportNode, Target};
 use macho_exports::exports::MOST_FLAGS;
 use macho_fields::header::loader::LC_DYLD_EXPORTS_TRIE;
 use macho_fields::{Bytes, Rule, Span};
-use macho_linked::stream::Limits;
+use macho_opcodes::stream::Limits;
 use macho_tables::numbers::read_uleb;
 
 // The index of the exports among the tables of `dyld_info_command`.

@@ -17,27 +17,27 @@ use Rattle.macho_tables.specs.Kinds.{names_linked_data}
 use Rattle.macho_image.proofs.ReadParts.{length-part}
 use Rattle.macho_rules.proofs.Searches.{mapped_has}
 use Rattle.macho_spans.specs.Span.{Covers}
-use Rattle.macho_linked.specs.Cursor.{start, moved, cursor_after, writes}
-use Rattle.macho_linked.specs.Dyld.{State, Takes, IsLastSegment, slot, Moves, Reaches, BeginsInMemory, IsSafe, IsFollowedSafely, AreFollowedSafely}
+use Rattle.macho_opcodes.specs.Cursor.{start, moved, cursor_after, writes}
+use Rattle.macho_linked.specs.Dyld.{State, Takes, slot, Moves, Reaches, BeginsInMemory, IsSafe, IsFollowedSafely, AreFollowedSafely}
 use Rattle.macho_tables.specs.Memory.{bytes_from, IsKept}
 use Rattle.macho_linked.specs.Harmless.{all_streams, streams_of, IsStream, WritesAt, IsHarmless}
-use Rattle.macho_linked.specs.Images.{opcodes_of, fields_of}
+use Rattle.macho_opcodes.specs.Images.{opcodes_of, fields_of}
 use Rattle.macho_tables.specs.Places.{dyld_info}
 use Rattle.macho_linked.specs.Rules.{BreaksImage, IsLinkedUnbroken}
 use Rattle.macho_tables.specs.Segments.{is_writable, is_constant}
-use Rattle.macho_linked.specs.Steps.{step_at, AreStepsFrom, AreSteps}
-use Rattle.macho_linked.specs.declared.cursor.Cursor.{Cursor}
-use Rattle.macho_linked.specs.declared.step.Opcodes.{Opcodes}
-use Rattle.macho_linked.specs.declared.step.Step.{Step}
-use Rattle.macho_linked.specs.declared.step.Step.TheVariants as step
-use Rattle.macho_linked.specs.declared.streams.Stream.{Stream}
+use Rattle.macho_opcodes.specs.Steps.{step_at, IsLastOpcode, AreStepsFrom, AreSteps}
+use Rattle.macho_opcodes.specs.declared.cursor.Cursor.{Cursor}
+use Rattle.macho_opcodes.specs.declared.step.Opcodes.{Opcodes}
+use Rattle.macho_opcodes.specs.declared.step.Step.{Step}
+use Rattle.macho_opcodes.specs.declared.step.Step.TheVariants as step
+use Rattle.macho_opcodes.specs.declared.streams.Stream.{Stream}
 use Rattle.macho_linked.proofs.Harmless.{harmless_image, of_images}
 use Rattle.macho_tables.proofs.Memory.{segment_among, never_constant, same_in_memory}
-use Rattle.macho_linked.proofs.Prefixes.{step_same}
-use Rattle.macho_linked.proofs.StepChains.{steps_more, steps_on}
-use Rattle.macho_linked.proofs.TableSurveys.{stream_named, stream_inside}
+use Rattle.macho_opcodes.proofs.Prefixes.{step_same}
+use Rattle.macho_opcodes.proofs.StepChains.{steps_more, steps_on}
+use Rattle.macho_opcodes.proofs.TableSurveys.{stream_named, stream_inside}
 use Rattle.macho_tables.proofs.Places.{info_has}
-use Rattle.macho_linked.proofs.Within.{step_within}
+use Rattle.macho_opcodes.proofs.Within.{step_within}
 
 -- Two lists that agree as far as both go: an opcode that one has is that of the other, but for the last
 module _ (of : Opcodes) (xs ys : List ℕ) (agree : (k : ℕ) → k < length xs → k < length ys → get_or xs k 0 ≡ get_or ys k 0) where
@@ -48,7 +48,7 @@ module _ (of : Opcodes) (xs ys : List ℕ) (agree : (k : ℕ) → k < length xs 
       ext_get_or 0 (take (length xs) ys) xs size
       (λ i below. get_or-take (length xs) ys i 0 (omega (arith, size, below)) ∙ sym (agree i (omega (arith, size, below)) (omega (arith, size, below, less))))
 
-  longer : (place : ℕ) (r : Step × ℕ) → length xs ≤ length ys → step_at of xs place ≡ Some r → ¬ IsLastSegment of (get_or xs place 0) → step_at of ys place ≡ Some r
+  longer : (place : ℕ) (r : Step × ℕ) → length xs ≤ length ys → step_at of xs place ≡ Some r → ¬ IsLastOpcode of (get_or xs place 0) → step_at of ys place ≡ Some r
   longer place r less is not_last =
       let whole : xs ++ drop (length xs) ys ≡ ys = ap (λ (zs : List ℕ). zs ++ drop (length xs) ys) (sym (front less)) ∙ take-append-drop (length xs) ys in
       elim (step_same xs (drop (length xs) ys) of place r is) [
@@ -60,7 +60,7 @@ one_read : (read : Option (Step × ℕ)) (r s : Step × ℕ) → read ≡ Some r
 one_read read r s is also = cc
 
 step_agrees : (of : Opcodes) (xs ys : List ℕ) → ((k : ℕ) → k < length xs → k < length ys → get_or xs k 0 ≡ get_or ys k 0) → (place : ℕ) (r s : Step × ℕ)
-    → step_at of xs place ≡ Some r → step_at of ys place ≡ Some s → ¬ IsLastSegment of (get_or xs place 0) → r ≡ s
+    → step_at of xs place ≡ Some r → step_at of ys place ≡ Some s → ¬ IsLastOpcode of (get_or xs place 0) → r ≡ s
 step_agrees of xs ys agree place r s is also not_last =
     let in_x = step_within of xs place r.0 r.1 is in
     let in_y = step_within of ys place s.0 s.1 also in
@@ -68,7 +68,7 @@ step_agrees of xs ys agree place r s is also not_last =
     elim (cases_lt (length ys) (length xs)) [
       | inl less ↦
           one_read (step_at of xs place) r s is
-          (longer of ys xs (λ k below above. sym (agree k above below)) place s (omega arith) also (λ last. not_last (subst (IsLastSegment of) (sym here) last)))
+          (longer of ys xs (λ k below above. sym (agree k above below)) place s (omega arith) also (λ last. not_last (subst (IsLastOpcode of) (sym here) last)))
       | inr more ↦ one_read (step_at of ys place) r s (longer of xs ys agree place r more is not_last) also
     ]
 
@@ -130,12 +130,12 @@ module _ (image : List ℕ) (kept : NothingBreaks (BreaksImage image)) (unbroken
           next (first ∷ rest) (after, at, on) = ((first, after), at)
 
       takes_same : (place : ℕ) (before : List Step) → AreSteps of stream before place → place < length stream → (said : Step) (after : ℕ) → Takes of memory home place said after
-          → ¬ IsLastSegment of (memory (home + place)) → step_at of stream place ≡ Some (said, after)
+          → ¬ IsLastOpcode of (memory (home + place)) → step_at of stream place ≡ Some (said, after)
       takes_same place before chain less said after (n, takes) not_last =
           let (r, at) = opcode_there place before chain less in
           let agree = λ (k : ℕ) (in_x : k < length stream) (in_y : k < length (bytes_from memory home n)).
           sym (stream_same k in_x) ∙ sym (get_or-map-range_with_len memory home n k (home + k) 0 (subst (λ (size : ℕ). k < size) (length-map-range_with_len memory home n) in_y) refl) in
-          let same = step_agrees of stream (bytes_from memory home n) agree place r (said, after) at takes (λ last. not_last (subst (IsLastSegment of) (sym (stream_same place less)) last)) in
+          let same = step_agrees of stream (bytes_from memory home n) agree place r (said, after) at takes (λ last. not_last (subst (IsLastOpcode of) (sym (stream_same place less)) last)) in
           at ∙ ap Some same
 
     -- a pointer that a step writes

@@ -19,26 +19,26 @@ use Rattle.macho_rules.proofs.Searches.{mapped_has}
 use Rattle.macho_rules.proofs.Profiles.{images_keep, layout_keeps}
 use Rattle.macho_rules.proofs.Verdicts.{unbroken_image_sound}
 use Rattle.macho_rules.specs.Profile.{NoFileRule}
-use Rattle.macho_linked.specs.Cursor.{cursor_after, writes}
+use Rattle.macho_opcodes.specs.Cursor.{cursor_after, writes}
 use Rattle.macho_linked.specs.Harmless.{all_streams, streams_of, IsStream, SaysAt, IsSlot, IsHarmless, AreHarmless}
-use Rattle.macho_linked.specs.Images.{Undecoded, NoLibrary, NoName, NoSlot, TooMany, InTable, InStream, InRebases, InBinds, InBindsOf, opcodes_of, fields_of}
+use Rattle.macho_opcodes.specs.Images.{Undecoded, NoLibrary, NoName, NoSlot, TooMany, InTable, InStream, InRebases, InBinds, InBindsOf, opcodes_of, fields_of}
 use Rattle.macho_tables.specs.Places.{dyld_info}
 use Rattle.macho_tables.specs.Limits.{room, rooms_of, budget_of, library_count}
 use Rattle.macho_linked.specs.Rules.{BreaksImage, IsLinkedUnbroken}
 use Rattle.macho_tables.specs.Segments.{is_writable}
-use Rattle.macho_linked.specs.Steps.{step_at, AreStepsFrom, AreSteps}
-use Rattle.macho_linked.specs.Streams.{pointers, EndsInRoom, reach}
-use Rattle.macho_linked.specs.declared.step.Opcodes.{Opcodes}
-use Rattle.macho_linked.specs.declared.step.Opcodes.TheVariants as opcodes
-use Rattle.macho_linked.specs.declared.step.Step.{Step}
-use Rattle.macho_linked.specs.declared.step.Step.TheVariants as step
-use Rattle.macho_linked.specs.declared.streams.Stream.{Stream}
-use Rattle.macho_linked.specs.declared.streams.Stream.TheVariants as streams
+use Rattle.macho_opcodes.specs.Steps.{step_at, AreStepsFrom, AreSteps}
+use Rattle.macho_opcodes.specs.Streams.{pointers, EndsInRoom, reach}
+use Rattle.macho_opcodes.specs.declared.step.Opcodes.{Opcodes}
+use Rattle.macho_opcodes.specs.declared.step.Opcodes.TheVariants as opcodes
+use Rattle.macho_opcodes.specs.declared.step.Step.{Step}
+use Rattle.macho_opcodes.specs.declared.step.Step.TheVariants as step
+use Rattle.macho_opcodes.specs.declared.streams.Stream.{Stream}
+use Rattle.macho_opcodes.specs.declared.streams.Stream.TheVariants as streams
 use Rattle.macho_spans.specs.declared.span.Span.{Span}
 use Rattle.macho_tables.proofs.Memory.{never_both}
 use Rattle.macho_linked.proofs.SafeTexts.{text_at_base}
-use Rattle.macho_linked.proofs.StepChains.{steps_more}
-use Rattle.macho_linked.proofs.Within.{step_within}
+use Rattle.macho_opcodes.proofs.StepChains.{steps_more}
+use Rattle.macho_opcodes.proofs.Within.{step_within}
 
 -- a segment whose room is not empty is there, and can be written
 module _ (image : List ℕ) where

@@ -16,21 +16,21 @@ use Rattle.macho_image.proofs.ReadParts.{length-part}
 use Rattle.macho_rules.proofs.Judged.{opened_facts, opened_commands}
 use Rattle.macho_rules.proofs.Verdicts.{unbroken_opened}
 use Rattle.macho_chains.specs.Chains.{chained_fixups, NoHeader, BadStarts, BadImports, LongNames, UnknownLibrary, InNoBytes}
-use Rattle.macho_linked.specs.Images.{opcodes_of, fields_of, Undecoded, NoLibrary, NoName, NoSlot, TooMany, TooLong, InStream, InRebases, InBindsOf, InBinds}
+use Rattle.macho_opcodes.specs.Images.{opcodes_of, fields_of, Undecoded, NoLibrary, NoName, NoSlot, TooMany, TooLong, InStream, InRebases, InBindsOf, InBinds}
 use Rattle.macho_tables.specs.Places.{dyld_info}
 use Rattle.macho_tables.specs.DataInCode.{BadEntry}
 use Rattle.macho_linked.specs.Rules.{BreaksImage}
 use Rattle.macho_tables.specs.StartNumbers.{BadNumber, StrayStart}
-use Rattle.macho_linked.specs.declared.step.Opcodes.{Opcodes}
-use Rattle.macho_linked.specs.declared.streams.Stream.{Stream}
-use Rattle.macho_linked.specs.declared.streams.Stream.TheVariants as streams
+use Rattle.macho_opcodes.specs.declared.step.Opcodes.{Opcodes}
+use Rattle.macho_opcodes.specs.declared.streams.Stream.{Stream}
+use Rattle.macho_opcodes.specs.declared.streams.Stream.TheVariants as streams
 use Rattle.macho_chains.proofs.ChainTables.{no_header, bad_starts, bad_imports, long_names, unknown_library, chains_near}
 use Rattle.macho_tables.proofs.DataInCode.{bad_entry_near}
 use Rattle.macho_tables.proofs.DataTables.{data_near, data_table_inside}
 use Rattle.macho_exports.proofs.ExportTables.{node_inside, total_inside, terminal_inside, library_inside, address_inside}
 use Rattle.macho_chains.proofs.PointerSurveys.{slots_near, binds_near}
 use Rattle.macho_tables.proofs.StartNumbers.{bad_number_near, stray_start_near}
-use Rattle.macho_linked.proofs.TableSurveys.{IsStreamRule, undecoded, no_library, no_name, no_slot, too_many, too_long}
+use Rattle.macho_opcodes.proofs.TableSurveys.{IsStreamRule, undecoded, no_library, no_name, no_slot, too_many, too_long}
 use Rattle.macho_tables.proofs.Places.{named_first}
 use Rattle.macho_image.specs.Symbol.{symbol_at}
 use Rattle.macho_signature.specs.Signature.{BadDirectory, PartialDirectory, InSignature}

@@ -2,22 +2,20 @@
 -- Memory has a byte for each address, and is that of an image loaded at its base, which is where the segments
 -- named __TEXT are (header-home). The loader takes segments as the headers of the file have them: these lie in
 -- memory that stays as it is in the file (header-home, IsKept).
-use Rattle.std.specs.Prelude.{◌≡◌, ℕ, zero, suc, ◌+◌, ◌*◌, ◌≤◌, ◌<◌, ◌⊎◌, List, length, Any, Contains, Some, true, slice_get, slice_index, bit_and, IsSomeAnd}
+use Rattle.std.specs.Prelude.{◌≡◌, ℕ, zero, suc, ◌+◌, ◌*◌, ◌≤◌, ◌<◌, ◌⊎◌, List, length, Any, Contains, Some, true, slice_get, slice_index, IsSomeAnd}
 use Rattle.macho_fields.specs.Field.{part}
 use Rattle.macho_fields.specs.Segment.{all_segments, vmaddr, fileoff, filesize}
 use Rattle.macho_fields.specs.Universal.{OfEachImage}
-use Rattle.macho_linked.specs.Cursor.{start, moved, cursor_after, writes}
+use Rattle.macho_opcodes.specs.Cursor.{start, moved, cursor_after, writes}
 use Rattle.macho_linked.specs.Harmless.{streams_of}
 use Rattle.macho_tables.specs.Places.{dyld_info}
 use Rattle.macho_tables.specs.Memory.{bytes_from, IsKept}
 use Rattle.macho_tables.specs.Segments.{is_writable, IsLinkedit}
-use Rattle.macho_linked.specs.Steps.{step_at, AreSteps}
-use Rattle.macho_linked.specs.declared.cursor.Cursor.{Cursor}
-use Rattle.macho_fields.specs.declared.header.loader.TheConstants as opcode
-use Rattle.macho_linked.specs.declared.step.Opcodes.{Opcodes}
-use Rattle.macho_linked.specs.declared.step.Opcodes.TheVariants as opcodes
-use Rattle.macho_linked.specs.declared.step.Step.{Step}
-use Rattle.macho_linked.specs.declared.step.Step.TheVariants as step
+use Rattle.macho_opcodes.specs.Steps.{step_at, IsLastOpcode, AreSteps}
+use Rattle.macho_opcodes.specs.declared.cursor.Cursor.{Cursor}
+use Rattle.macho_opcodes.specs.declared.step.Opcodes.{Opcodes}
+use Rattle.macho_opcodes.specs.declared.step.Step.{Step}
+use Rattle.macho_opcodes.specs.declared.step.Step.TheVariants as step
 use Rattle.macho_tables.specs.declared.limits.TheConstants as size
 use Rattle.macho_spans.specs.Span.{Covers}
 
@@ -32,11 +30,6 @@ pub record State : Type 0 where
 abbrev pub Takes : Opcodes → (ℕ → ℕ) → ℕ → ℕ → Step → ℕ → Type 0
 Takes of memory home place said after =
     (n : ℕ) × (step_at of (bytes_from memory home n) place ≡ Some (said, after))
-
--- the opcode with this byte ends the stream: DONE, but not in the lazy one
-abbrev pub IsLastSegment : Opcodes → ℕ → Type 0
-IsLastSegment opcodes.LazyBind byte = ⊥
-IsLastSegment other byte = bit_and byte opcode.BIND_OPCODE_MASK ≡ opcode.BIND_OPCODE_DONE
 
 -- how many bytes are between two pointers that a step writes
 abbrev pub skip_of : Step → ℕ
@@ -59,7 +52,7 @@ IsWritten image cursor said address =
 abbrev pub Moves : List ℕ → Opcodes → ℕ → ℕ → State → State → Type 0
 Moves image of home len a b =
     (said : Step) × (a.place < len) × Takes of a.memory home a.place said b.place
-    × (¬ IsLastSegment of (a.memory (home + a.place)))
+    × (¬ IsLastOpcode of (a.memory (home + a.place)))
     × (b.cursor ≡ moved a.cursor said)
     × ((address : ℕ) → (b.memory address ≡ a.memory address) ⊎ IsWritten image a.cursor said address)
 
@@ -86,10 +79,10 @@ pub record IsSafe (image : List ℕ) (of : Opcodes) (stream : List ℕ) (home n 
   pub kept : IsKept image a.memory
   -- the opcode that comes next lies in the stream, with its operands
   pub inside : (said : Step) (after : ℕ) → a.place < length stream → Takes of a.memory home a.place said after
-      → ¬ IsLastSegment of (a.memory (home + a.place)) → after ≤ length stream
+      → ¬ IsLastOpcode of (a.memory (home + a.place)) → after ≤ length stream
   -- and each pointer that it writes is whole, in the file bytes of a segment that can be written
   pub writes : (said : Step) (after k : ℕ) → a.place < length stream
-      → Takes of a.memory home a.place said after → ¬ IsLastSegment of (a.memory (home + a.place)) → k < writes said
+      → Takes of a.memory home a.place said after → ¬ IsLastOpcode of (a.memory (home + a.place)) → k < writes said
       → (segment : ℕ) × (s : ℕ) × (a.cursor.segment ≡ Some segment)
       × (slice_get (all_segments image) segment ≡ Some s) × (is_writable image s ≡ true)
       × (slot a.cursor said k + size.POINTER_SIZE ≤ filesize image s)

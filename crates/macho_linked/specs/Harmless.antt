@@ -6,21 +6,21 @@ use Rattle.macho_fields.specs.Image.{commands_of}
 use Rattle.macho_fields.specs.Segment.{all_segments, base_of, vmaddr, filesize, Supplies}
 use Rattle.macho_fields.specs.Symbol.{table_at}
 use Rattle.macho_fields.specs.Universal.{OfEachImage}
-use Rattle.macho_linked.specs.Cursor.{cursor_after}
+use Rattle.macho_opcodes.specs.Cursor.{cursor_after}
 use Rattle.macho_tables.specs.Homes.{IsHome, HasLinkedData}
-use Rattle.macho_linked.specs.Images.{opcodes_of, fields_of}
+use Rattle.macho_opcodes.specs.Images.{opcodes_of, fields_of}
 use Rattle.macho_tables.specs.Places.{dyld_info}
 use Rattle.macho_tables.specs.Limits.{budget_of, library_count}
 use Rattle.macho_tables.specs.Segments.{is_writable, IsText}
-use Rattle.macho_linked.specs.Steps.{step_at, AreSteps}
-use Rattle.macho_linked.specs.Streams.{pointers}
-use Rattle.macho_linked.specs.declared.step.Opcodes.{Opcodes}
-use Rattle.macho_linked.specs.declared.step.Opcodes.TheVariants as opcodes
-use Rattle.macho_linked.specs.declared.step.Step.{Step}
-use Rattle.macho_linked.specs.declared.step.Step.TheVariants as step
+use Rattle.macho_opcodes.specs.Steps.{step_at, AreSteps}
+use Rattle.macho_opcodes.specs.Streams.{pointers}
+use Rattle.macho_opcodes.specs.declared.step.Opcodes.{Opcodes}
+use Rattle.macho_opcodes.specs.declared.step.Opcodes.TheVariants as opcodes
+use Rattle.macho_opcodes.specs.declared.step.Step.{Step}
+use Rattle.macho_opcodes.specs.declared.step.Step.TheVariants as step
 use Rattle.macho_tables.specs.declared.limits.TheConstants as size
-use Rattle.macho_linked.specs.declared.streams.Stream.{Stream}
-use Rattle.macho_linked.specs.declared.streams.Stream.TheVariants as streams
+use Rattle.macho_opcodes.specs.declared.streams.Stream.{Stream}
+use Rattle.macho_opcodes.specs.declared.streams.Stream.TheVariants as streams
 use Rattle.macho_spans.specs.declared.span.Span.{Span}
 
 -- the streams of a command: their opcodes, and the tables that are their bytes

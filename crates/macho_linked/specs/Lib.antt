@@ -1,7 +1,3 @@
-pub mod Steps
-pub mod Cursor
-pub mod Streams
-pub mod Images
 pub mod Rules
 pub mod Harmless
 pub mod Located

@@ -10,7 +10,7 @@ use Rattle.macho_chains.specs.Chains.{BadStarts, BadImports, LongNames, UnknownL
 use Rattle.macho_tables.specs.DataInCode.{BreaksDataInCode}
 use Rattle.macho_exports.specs.Exports.{BreaksExportNode, BreaksExportTotal, BreaksExportTerminal, BreaksExportLibrary, BreaksExportAddress}
 use Rattle.macho_tables.specs.Homes.{BreaksTableHome, BreaksHeaderHome}
-use Rattle.macho_linked.specs.Images.{Undecoded, NoLibrary, NoName, NoSlot, TooMany, TooLong, InRebases, InBinds}
+use Rattle.macho_opcodes.specs.Images.{Undecoded, NoLibrary, NoName, NoSlot, TooMany, TooLong, InRebases, InBinds}
 use Rattle.macho_tables.specs.Kinds.{BreaksTableRepeated, BreaksFunctionVariants}
 use Rattle.macho_tables.specs.StartNumbers.{BreaksFunctionNumber, BreaksFunctionStart}
 use Rattle.macho_signature.specs.Signature.{BreaksSignatureBlob, BreaksSignatureDirectory, BreaksSignatureWhole}

@@ -14,13 +14,13 @@ ghost use Rattle.macho_strict.specs.Rules.{BreaksStrictImage};
 ghost use Rattle.macho_symbols.specs.Symbols.{IsLeastOfImage as AreLeastSymbols};
 
 use crate::profile::Linked;
-use crate::streams::StreamSurveys;
 use macho_chains::chain_pages::PointerSurvey;
 use macho_chains::chains::{ChainSurvey, ChainedFixups};
 use macho_commands::CommandSurvey;
 use macho_exports::exports::ExportSurvey;
 use macho_fields::{Break, Rule};
 use macho_image::Image;
+use macho_opcodes::streams::StreamSurveys;
 use macho_rules::{ProfileRules, Refusal};
 use macho_signature::SignatureSurvey;
 use macho_symbols::SymbolSurvey;

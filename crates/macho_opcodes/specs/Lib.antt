@@ -1,0 +1,4 @@
+pub mod Steps
+pub mod Cursor
+pub mod Streams
+pub mod Images
