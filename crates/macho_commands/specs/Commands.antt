@@ -13,7 +13,6 @@ use Rattle.macho_commands.specs.declared.content.Content.{Content}
 use Rattle.macho_commands.specs.declared.content.Holding.{Holding}
 use Rattle.macho_commands.specs.declared.content.Holding.TheVariants as holding
 use Rattle.macho_fields.specs.declared.header.loader.TheConstants as loader
-use Rattle.macho_commands.specs.declared.loader.TheConstants as loader
 
 -- the bytes of a command
 abbrev pub command_bytes : List ℕ → ℕ → List ℕ

@@ -9,7 +9,6 @@ use Rattle.macho_commands.specs.declared.content.Content.{Content}
 use Rattle.macho_commands.specs.declared.content.Holding.{Holding}
 use Rattle.macho_commands.specs.declared.content.Holding.TheVariants as holding
 use Rattle.macho_fields.specs.declared.header.loader.TheConstants as loader
-use Rattle.macho_commands.specs.declared.loader.TheConstants as loader
 
 pub record HeldCommand : Type 0 where
   pub cmd : ℕ

@@ -3,7 +3,6 @@ use Rattle.std.specs.Prelude.{◌≡◌, ◌≢◌, ℕ, ◌/◌, ◌^◌, ◌<�
 use Rattle.macho_fields.specs.declared.header.nlist.TheConstants.{N_STAB, N_TYPE}
 use Rattle.macho_image.specs.declared.symbol.Symbol.{Symbol}
 use Rattle.macho_fields.specs.declared.header.nlist.TheConstants as nlist
-use Rattle.macho_symbols.specs.declared.nlist.TheConstants as nlist
 
 -- n_type: the symbol is no debugging entry (N_STAB), and has the type (N_TYPE)
 abbrev pub HasType : ℕ → Symbol → Type 0
