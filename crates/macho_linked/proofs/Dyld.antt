@@ -5,7 +5,6 @@ use Rattle.std.proofs.lemmas.List.{ext_get_or, get_or-take, length-take-le, take
 use Rattle.std.proofs.lemmas.List.FromFn.{get_or-map-range_with_len, length-map-range_with_len}
 use Rattle.std.proofs.lemmas.List.Sums.{fold_push}
 use Rattle.macho_fields.specs.Field.{part}
-use Rattle.macho_fields.specs.First.{IsUnbroken}
 use Rattle.macho_fields.specs.Image.{command_cmd, commands_of}
 use Rattle.macho_fields.specs.Layers.{NothingBreaks}
 use Rattle.macho_fields.specs.Rules as layout
@@ -18,12 +17,12 @@ use Rattle.macho_image.proofs.ReadParts.{length-part}
 use Rattle.macho_rules.proofs.Searches.{mapped_has}
 use Rattle.macho_spans.specs.Span.{Covers}
 use Rattle.macho_opcodes.specs.Cursor.{start, moved, cursor_after, writes}
-use Rattle.macho_linked.specs.Dyld.{State, Takes, slot, Moves, Reaches, BeginsInMemory, IsSafe, IsFollowedSafely, AreFollowedSafely}
+use Rattle.macho_linked.specs.Dyld.{State, Takes, slot, Moves, Reaches, BeginsInMemory, IsSafe, IsFollowedSafely}
 use Rattle.macho_tables.specs.Memory.{bytes_from, IsKept}
 use Rattle.macho_linked.specs.Harmless.{all_streams, streams_of, IsStream, WritesAt, IsHarmless}
 use Rattle.macho_opcodes.specs.Images.{opcodes_of, fields_of}
 use Rattle.macho_tables.specs.Places.{dyld_info}
-use Rattle.macho_linked.specs.Rules.{BreaksImage, IsLinkedUnbroken}
+use Rattle.macho_linked.specs.Rules.{BreaksImage}
 use Rattle.macho_tables.specs.Segments.{is_writable, is_constant}
 use Rattle.macho_opcodes.specs.Steps.{step_at, IsLastOpcode, AreStepsFrom, AreSteps}
 use Rattle.macho_opcodes.specs.declared.cursor.Cursor.{Cursor}
@@ -31,7 +30,7 @@ use Rattle.macho_opcodes.specs.declared.step.Opcodes.{Opcodes}
 use Rattle.macho_opcodes.specs.declared.step.Step.{Step}
 use Rattle.macho_opcodes.specs.declared.step.Step.TheVariants as step
 use Rattle.macho_opcodes.specs.declared.streams.Stream.{Stream}
-use Rattle.macho_linked.proofs.Harmless.{harmless_image, of_images}
+use Rattle.macho_linked.proofs.Harmless.{harmless_image}
 use Rattle.macho_tables.proofs.Memory.{segment_among, never_constant, same_in_memory}
 use Rattle.macho_opcodes.proofs.Prefixes.{step_same}
 use Rattle.macho_opcodes.proofs.StepChains.{steps_more, steps_on}
@@ -219,7 +218,3 @@ module _ (image : List ℕ) (kept : NothingBreaks (BreaksImage image)) (unbroken
         before = ([], refl, sym begins, fresh);
         still = still;
       }) reached))
-
--- a file
-pub file_followed_safely : (file : List ℕ) → IsUnbroken file → IsLinkedUnbroken file → AreFollowedSafely file
-file_followed_safely = of_images IsFollowedSafely followed_safely

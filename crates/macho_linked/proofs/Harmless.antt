@@ -20,7 +20,7 @@ use Rattle.macho_rules.proofs.Profiles.{images_keep, layout_keeps}
 use Rattle.macho_rules.proofs.Verdicts.{unbroken_image_sound}
 use Rattle.macho_rules.specs.Profile.{NoFileRule}
 use Rattle.macho_opcodes.specs.Cursor.{cursor_after, writes}
-use Rattle.macho_linked.specs.Harmless.{all_streams, streams_of, IsStream, SaysAt, IsSlot, IsHarmless, AreHarmless}
+use Rattle.macho_linked.specs.Harmless.{all_streams, streams_of, IsStream, SaysAt, IsSlot, IsHarmless}
 use Rattle.macho_opcodes.specs.Images.{Undecoded, NoLibrary, NoName, NoSlot, TooMany, InTable, InStream, InRebases, InBinds, InBindsOf, opcodes_of, fields_of}
 use Rattle.macho_tables.specs.Places.{dyld_info}
 use Rattle.macho_tables.specs.Limits.{room, rooms_of, budget_of, library_count}
@@ -210,6 +210,3 @@ pub of_images : (P : List ℕ → Type 0) → ((image : List ℕ) → NothingBre
     → (file : List ℕ) → IsUnbroken file → IsLinkedUnbroken file → OfEachImage P file
 of_images P each file unbroken linked k d less image =
     each (slice_bytes file (get_or (slices_of file) k d)) (images_keep file NoFileRule BreaksImage linked k d less image) (layout_keeps file unbroken k d less image)
-
-pub harmless_file : (file : List ℕ) → IsUnbroken file → IsLinkedUnbroken file → AreHarmless file
-harmless_file = of_images IsHarmless harmless_image

@@ -7,7 +7,6 @@ use Rattle.std.proofs.lemmas.List.{drop-drop}
 use Rattle.std.proofs.lemmas.List.Elements.{All-cons}
 use Rattle.std.proofs.lemmas.List.Sums.{sum_by_push}
 use Rattle.macho_fields.specs.Field.{part}
-use Rattle.macho_fields.specs.First.{IsUnbroken}
 use Rattle.macho_fields.specs.Image.{commands_of}
 use Rattle.macho_fields.specs.Layers.{NothingBreaks}
 use Rattle.macho_fields.specs.Rules.{BreaksImage as Breaks}
@@ -22,14 +21,13 @@ use Rattle.macho_strict.specs.Unclaimed.{is_code}
 use Rattle.macho_tables.specs.DataInCode.{entry_at, entry_place, entry_count, is_known_kind, bytes_of_entry, IsCodeOf, IsBadEntry, BadEntry}
 use Rattle.macho_tables.specs.FunctionStarts.{next_start, starts_up_to, function_starts}
 use Rattle.macho_tables.specs.Homes.{bytes_of_segment}
-use Rattle.macho_linked.specs.Located.{IsLocatedEntry, IsLocated, AreLocated}
+use Rattle.macho_linked.specs.Located.{IsLocatedEntry, IsLocated}
 use Rattle.macho_tables.specs.Numbers.{number_bytes, digits_value, unsigned_at}
-use Rattle.macho_linked.specs.Rules.{BreaksImage, IsLinkedUnbroken}
+use Rattle.macho_linked.specs.Rules.{BreaksImage}
 use Rattle.macho_tables.specs.StartNumbers.{AreNumbers, IsFileAddress, StrayStart}
 use Rattle.macho_tables.specs.declared.data_in_code.DataInCodeEntry.{DataInCodeEntry}
 use Rattle.macho_tables.proofs.DataTables.{broken_in_image, data_table_inside}
 use Rattle.macho_tables.proofs.FileBytes.{file_or_not}
-use Rattle.macho_linked.proofs.Harmless.{of_images}
 use Rattle.macho_tables.proofs.StartNumbers.{numbers_more, stray_here}
 
 -- The first number of what is left of the data
@@ -110,7 +108,7 @@ entry_located image entry good = record {
 }
 
 module _ (image : List ℕ) (kept : NothingBreaks (BreaksImage image)) (unbroken : NothingBreaks (Breaks image None)) where
-  located_image : IsLocated image
+  pub located_image : IsLocated image
   located_image = record {
     functions = λ table base is at.
         functions_located image (part table.start table.len image) base at
@@ -122,7 +120,3 @@ module _ (image : List ℕ) (kept : NothingBreaks (BreaksImage image)) (unbroken
         let whole : length bytes % 8 ≡ 0 = elim (cases_eq (length bytes % 8) 0) [ inl none ↦ none | inr rest ↦ absurd (good 0 (inl (refl, rest))) ] in
         (entry_count bytes, omega (arith, size, whole), λ k less. entry_located image (entry_at bytes (entry_place k)) (λ bad. good (entry_place k) (inr (k, less, refl, bad))));
   }
-
--- a file
-pub file_located : (file : List ℕ) → IsUnbroken file → IsLinkedUnbroken file → AreLocated file
-file_located = of_images IsLocated located_image

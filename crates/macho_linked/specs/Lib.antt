@@ -2,4 +2,5 @@ pub mod Rules
 pub mod Harmless
 pub mod Located
 pub mod Dyld
+pub mod Linked
 pub mod Verdict

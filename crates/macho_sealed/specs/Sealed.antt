@@ -5,8 +5,10 @@ use Rattle.macho_fields.specs.Field.{part}
 use Rattle.macho_fields.specs.NonZero.{IsNonZero}
 use Rattle.macho_fields.specs.Universal.{OfEachImage}
 use Rattle.macho_fields.specs.declared.header.loader.TheConstants as loader
+use Rattle.macho_linked.specs.Linked.{KeepsLinked}
 use Rattle.macho_sealed.specs.Digests.{HasHash}
 use Rattle.macho_sealed.specs.Pages.{bytes_in, page_at, code_slot}
+use Rattle.macho_sealed.specs.Rules.{IsSealedUnbroken}
 use Rattle.macho_sealed.specs.Signature.{AreApart}
 use Rattle.macho_sealed.specs.Specials.{IsSpecialAt, HasSpecialHash}
 use Rattle.macho_signature.specs.CodeDirectories.{code_directory}
@@ -60,3 +62,13 @@ IsSealed image =
 -- of a file: each 64-bit slice has
 abbrev pub AreSealed : List ℕ → Type 0
 AreSealed = OfEachImage IsSealed
+
+-- What holds of a file that the sealed verdict accepts
+pub record KeepsSealed (file : List ℕ) : Type 0 where
+  -- the linked verdict accepts it
+  pub linked : KeepsLinked file
+  -- it breaks no sealed rule
+  pub unbroken : IsSealedUnbroken file
+  -- the code signature of each image has the hashes of all bytes before it and of the blobs in it, and each other byte
+  -- is zero, or in a part of the signature
+  pub sealed : AreSealed file

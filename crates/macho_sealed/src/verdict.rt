@@ -1,21 +1,8 @@
 //! The sealed verdict on a file.
 
 ghost use Rattle.std.specs.Prelude.{◌≡◌, OnOk, IfOk, IfErr};
-ghost use Rattle.macho_chains.specs.ChainDyld.{AreChainedSafely};
-ghost use Rattle.macho_commands.specs.Sound.{AreSoundCommands};
-ghost use Rattle.macho_exports.specs.ExportLaw.{HasSoundExports};
-ghost use Rattle.macho_fields.specs.First.{IsUnbroken};
-ghost use Rattle.macho_fields.specs.Loader.{IsSound};
-ghost use Rattle.macho_linked.specs.Dyld.{AreFollowedSafely};
-ghost use Rattle.macho_linked.specs.Harmless.{AreHarmless};
-ghost use Rattle.macho_linked.specs.Located.{AreLocated};
-ghost use Rattle.macho_linked.specs.Rules.{IsLinkedUnbroken};
-ghost use Rattle.macho_sealed.specs.Rules.{IsSealedUnbroken};
-ghost use Rattle.macho_sealed.specs.Sealed.{AreSealed};
+ghost use Rattle.macho_sealed.specs.Sealed.{KeepsSealed};
 ghost use Rattle.macho_sealed.specs.Verdict.{IsSealedRefusal};
-ghost use Rattle.macho_signature.specs.Signed.{AreSigned};
-ghost use Rattle.macho_strict.specs.Accounted.{IsAccounted};
-ghost use Rattle.macho_strict.specs.First.{IsStrictlyUnbroken};
 
 use crate::profile::Sealed;
 use macho_linked::verify_linked;
@@ -30,28 +17,11 @@ use std::alloc::Global;
 ///
 /// It does not say who signed the file, nor whether `Info.plist` and other files beside it are those that were signed.
 pub fn verify_sealed<'a>(alloc: Global, file: &'a [u8]) -> Result<Verified<'a>, Refusal>
-    // It accepts only a file that breaks no rule of the four profiles, and refuses only one that breaks one of them,
-    // unless there is no memory.
-    ensures accepted { OnOk result (IsUnbroken file.now) }
-    ensures strictly { OnOk result (IsStrictlyUnbroken file.now) }
-    ensures linked { OnOk result (IsLinkedUnbroken file.now) }
-    ensures unbroken { OnOk result (IsSealedUnbroken file.now) }
+    // It accepts only a file that `verify_linked` accepts and that breaks no sealed rule: so in each image there is a
+    // code signature, in which each code directory has the hash of each page of the bytes before it, and of each blob
+    // in a special slot. It refuses only a file that breaks a rule of the four profiles, unless there is no memory.
+    ensures accepted { OnOk result (KeepsSealed file.now) }
     ensures refused { IfErr result (IsSealedRefusal file.now) }
-
-    // In each image of what it accepts there is a code signature. Each code directory in it has the hash of each page
-    // of the bytes before it, and of each blob in a special slot. Each other byte is zero, or in a part of it.
-    ensures sealed { OnOk result (AreSealed file.now) }
-
-    // And all that `verify_linked` promises.
-    ensures sound { OnOk result (IsSound file.now) }
-    ensures accounted { OnOk result (IsAccounted file.now) }
-    ensures harmless { OnOk result (AreHarmless file.now) }
-    ensures followed { OnOk result (AreFollowedSafely file.now) }
-    ensures chained { OnOk result (AreChainedSafely file.now) }
-    ensures exports { OnOk result (HasSoundExports file.now) }
-    ensures located { OnOk result (AreLocated file.now) }
-    ensures signed { OnOk result (AreSigned file.now) }
-    ensures commands { OnOk result (AreSoundCommands file.now) }
     ensures file { IfOk result (λ verified. verified ≡ file.now) }
 {
     let verified = verify_linked(alloc, file)?;

@@ -1,4 +1,4 @@
-use Rattle.macho_profiles.proofs.Kept.{layout_kept, linked_kept, sealed_kept, strict_kept}
+use Rattle.macho_profiles.proofs.Kept.{layout_kept, strict_kept}
 use Rattle.macho_profiles.proofs.verdict.verify_by.Goals as goal
 
 pub returns-in-Layout-clause-accepted : goal.returns-in-Layout-clause-accepted
@@ -10,18 +10,3 @@ pub returns-in-Strict-clause-accepted : goal.returns-in-Strict-clause-accepted
 returns-in-Strict-clause-accepted c =
     let kept = c.verify_strictly.ensures in
     rw c.in-Strict.is (strict_kept c.args.file.now _ (layout_kept c.args.file.now _ kept.accepted kept.sound) kept.strictly kept.accounted)
-
-pub returns-in-Linked-clause-accepted : goal.returns-in-Linked-clause-accepted
-returns-in-Linked-clause-accepted c =
-    let kept = c.verify_linked.ensures in
-    rw c.in-Linked.is (linked_kept c.args.file.now _
-    (strict_kept c.args.file.now _ (layout_kept c.args.file.now _ kept.accepted kept.sound) kept.strictly kept.accounted)
-    kept.linked kept.harmless kept.followed kept.chained kept.exports kept.located kept.signed kept.commands)
-
-pub returns-in-Sealed-clause-accepted : goal.returns-in-Sealed-clause-accepted
-returns-in-Sealed-clause-accepted c =
-    let kept = c.verify_sealed.ensures in
-    rw c.in-Sealed.is (sealed_kept c.args.file.now _ (linked_kept c.args.file.now _
-    (strict_kept c.args.file.now _ (layout_kept c.args.file.now _ kept.accepted kept.sound) kept.strictly kept.accounted)
-    kept.linked kept.harmless kept.followed kept.chained kept.exports kept.located kept.signed kept.commands)
-    kept.unbroken kept.sealed)

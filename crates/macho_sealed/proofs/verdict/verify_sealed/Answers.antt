@@ -18,17 +18,19 @@ pub returns-in_err-check_images-clause-refused : goal.returns-in_err-check_image
 returns-in_err-check_images-clause-refused c =
     let file = c.args.file.now in
     let r = c.in_err-check_images.field-0.0 in
+    let kept = c.in_ok-verified.ensures.accepted in
     passed_on (IsSealedRefusal file) c.from_residual-in_err-check_images.result r c.from_residual-in_err-check_images.ensures.1
-    (sealed_refused file (record { layout = c.in_ok-verified.ensures.accepted; strict = c.in_ok-verified.ensures.strictly; linked = c.in_ok-verified.ensures.linked }) r
+    (sealed_refused file (record { layout = kept.layout; strict = kept.strict; linked = kept.linked }) r
     (subst (λ (bytes : List ℕ). IsRefusalOfImages BreaksImage bytes TakesMemory r) c.in_ok-verified.ensures.file c.in_err-check_images.ensures.refused))
 
 pub check_images-requires : goal.check_images-requires
-check_images-requires c = images_keep c.in_ok-verified.verified NoFileRule LinkedImage (subst IsLinkedUnbroken (sym c.in_ok-verified.ensures.file) c.in_ok-verified.ensures.linked)
+check_images-requires c = images_keep c.in_ok-verified.verified NoFileRule LinkedImage (subst IsLinkedUnbroken (sym c.in_ok-verified.ensures.file) c.in_ok-verified.ensures.accepted.linked)
 
-pub returns-clause-unbroken : goal.returns-clause-unbroken
-returns-clause-unbroken c = subst IsSealedUnbroken c.in_ok-verified.ensures.file c.in_ok-check_images.ensures.unbroken
-
-pub returns-clause-sealed : goal.returns-clause-sealed
-returns-clause-sealed c =
-    file_sealed c.args.file.now c.in_ok-verified.ensures.accepted c.in_ok-verified.ensures.linked
-    (subst IsSealedUnbroken c.in_ok-verified.ensures.file c.in_ok-check_images.ensures.unbroken)
+pub returns-clause-accepted : goal.returns-clause-accepted
+returns-clause-accepted c =
+    let kept = c.in_ok-verified.ensures.accepted in
+    let sealed = subst IsSealedUnbroken c.in_ok-verified.ensures.file c.in_ok-check_images.ensures.unbroken in record {
+      linked = kept;
+      unbroken = sealed;
+      sealed = file_sealed c.args.file.now kept.layout kept.linked sealed;
+    }
