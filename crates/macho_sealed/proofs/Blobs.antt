@@ -8,6 +8,14 @@ use Rattle.macho_signature.specs.declared.superblob.Superblob.{Superblob}
 use Rattle.macho_signature.proofs.Images.{index_inside}
 use Rattle.macho_signature.proofs.Signed.{blob_fits, past_index}
 
+-- an index that is below the count that was read, and one where a loop over the entries ends
+module _ (signature : List ℕ) (superblob : Superblob) (same : superblob ≡ superblob_at signature) (k : ℕ) where
+  pub counted : k < superblob.count → k < blob_count signature
+  counted less = subst (λ (s : Superblob). k < s.count) same less
+
+  pub counted_all : k ≤ superblob.count → superblob.count ≤ k → k ≡ blob_count signature
+  counted_all most past = subst (λ (s : Superblob). k ≡ s.count) same (let all : k ≡ superblob.count = omega arith in all)
+
 module _ (signature : List ℕ) (good : AreGoodBlobs signature) where
   -- the superblob ends in the signature
   superblob_inside : (superblob_at signature).length ≤ length signature

@@ -1,11 +1,12 @@
 -- The bytes of an image between the blobs of its signature, and past the last of them.
-use Rattle.std.proofs.Common.{◌≡◌, ℕ, zero, suc, ◌+◌, ◌-◌, ◌≤◌, ◌<◌, List, length, Option, Some, None, true, false, refl, sym, subst, arith, inl, inr, le_refl}
+use Rattle.std.proofs.Common.{◌≡◌, ℕ, zero, suc, ◌+◌, ◌-◌, ◌≤◌, ◌<◌, List, length, Option, Some, None, true, false, refl, sym, ap, ◌∙◌, subst, arith, inl, inr, le_refl}
 use Rattle.std.specs.Option.{is_some}
 use Rattle.std.proofs.lemmas.Bool.{cases_lt, true≢false, false≢true}
 use Rattle.macho_fields.specs.FirstPlace.{IsLeastPlace}
 use Rattle.macho_fields.specs.NonZero.{IsNonZero}
 use Rattle.macho_sealed.specs.Slack.{IsSlackAt}
 use Rattle.macho_signature.specs.Superblobs.{blob_count, entry_offset, blob_at, blob_end, least_offset, AreGoodBlobs}
+use Rattle.macho_signature.specs.declared.superblob.Blob.{Blob}
 use Rattle.macho_signature.proofs.Signed.{past_index}
 use Rattle.macho_strict.specs.Slack.{IsNonZeroWithin}
 use Rattle.macho_sealed.proofs.Blobs.{ends_before, blobs_rise}
@@ -56,9 +57,9 @@ module _ (image : List ℕ) (start : ℕ) (signature : List ℕ) where
           ]
 
     -- so it is between the blobs
-    pub gap_slack : k < blob_count signature → (found : Option ℕ) → is_some found ≡ true → IsLeastPlace (IsNonZeroWithin image (start + least_offset signature k) (start + (blob_at signature k).offset)) found
+    in_gap : k < blob_count signature → (found : Option ℕ) → is_some found ≡ true → IsLeastPlace (IsNonZeroWithin image (start + least_offset signature k) (start + (blob_at signature k).offset)) found
         → IsLeastPlace (IsSlackAt image start signature) found
-    gap_slack less = slack_found (start + (blob_at signature k).offset) after
+    in_gap less = slack_found (start + (blob_at signature k).offset) after
       where
         after : (j : ℕ) → k ≤ j → j < blob_count signature → start + (blob_at signature k).offset ≤ start + (blob_at signature j).offset
         after j late few = elim (cases_lt k j) [
@@ -67,16 +68,30 @@ module _ (image : List ℕ) (start : ℕ) (signature : List ℕ) where
         ]
 
     -- where there is none before the blob k, there is none up to its end
-    pub none_past_blob : k < blob_count signature → (found : Option ℕ) → is_some found ≡ false → IsLeastPlace (IsNonZeroWithin image (start + least_offset signature k) (start + (blob_at signature k).offset)) found
+    none_past : k < blob_count signature → (found : Option ℕ) → is_some found ≡ false → IsLeastPlace (IsNonZeroWithin image (start + least_offset signature k) (start + (blob_at signature k).offset)) found
         → NoneBefore (start + blob_end (blob_at signature k))
-    none_past_blob less (Some first) wrong least = absurd (true≢false wrong)
-    none_past_blob less None is nowhere = λ place below slack. elim (cases_lt place (start + least_offset signature k)) [
+    none_past less (Some first) wrong least = absurd (true≢false wrong)
+    none_past less None is nowhere = λ place below slack. elim (cases_lt place (start + least_offset signature k)) [
       | inl early ↦ none place early slack
       | inr late ↦ elim (cases_lt place (start + (blob_at signature k).offset)) [
         | inl within ↦ nowhere place (late, within, subst (IsNonZero image) (sym slack.1) slack.2.0)
         | inr past ↦ let at = slack.1 in slack.2.1.1 k less (omega (arith, past, at), omega (arith, below, at))
       ]
     ]
+
+  -- what is found between the blobs before the blob k, which all end at a place, and that blob
+  module _ (good : AreGoodBlobs signature) (k : ℕ) (less : k < blob_count signature) (end from : ℕ) (blob : Blob) (found : Option ℕ) (at : end ≡ start + least_offset signature k)
+      (none : NoneBefore end) (is : blob ≡ blob_at signature k) (begins : from ≡ blob.offset) (least : IsLeastPlace (IsNonZeroWithin image end (start + from)) found) where
+    least_in_gap : IsLeastPlace (IsNonZeroWithin image (start + least_offset signature k) (start + (blob_at signature k).offset)) found
+    least_in_gap =
+        subst (λ n. IsLeastPlace (IsNonZeroWithin image n (start + (blob_at signature k).offset)) found) at
+        (subst (λ n. IsLeastPlace (IsNonZeroWithin image end (start + n)) found) (begins ∙ ap (λ (b : Blob). b.offset) is) least)
+
+    pub gap_slack : is_some found ≡ true → IsLeastPlace (IsSlackAt image start signature) found
+    gap_slack some = in_gap good k (omega (arith, less)) (subst NoneBefore at none) less found some least_in_gap
+
+    pub none_past_blob : is_some found ≡ false → NoneBefore (start + blob_end (blob_at signature k))
+    none_past_blob nowhere = none_past good k (omega (arith, less)) (subst NoneBefore at none) less found nowhere least_in_gap
 
   -- past the last blob
   pub last_slack : AreGoodBlobs signature → NoneBefore (start + least_offset signature (blob_count signature)) → (found : Option ℕ)

@@ -3,11 +3,11 @@ use Rattle.std.proofs.Math.ListN.{set}
 use Rattle.macho_fields.specs.Bytes.{bytes_of}
 use Rattle.macho_sealed.specs.Directories.{IsDirectoryOf, AreDirectories}
 use Rattle.macho_sealed.specs.Slots.{slot_number}
+use Rattle.macho_sealed.proofs.Blobs.{counted}
 use Rattle.macho_sealed.proofs.PlacedDirectories.{none_more_placed, one_more_placed}
 use Rattle.macho_signature.specs.Signature.{bytes_at}
 use Rattle.macho_signature.specs.Superblobs.{blob_at, blob_bytes, blob_count, is_directory_slot}
 use Rattle.macho_signature.specs.declared.superblob.Blob.{Blob}
-use Rattle.macho_signature.specs.declared.superblob.Superblob.{Superblob}
 use Rattle.macho_sealed.proofs.directories.directories_of.Goals as goal
 use Rattle.macho_sealed.proofs.directories.directories_of.Goals.{then-is_directory, else-is_directory}
 
@@ -21,7 +21,7 @@ loop-index-preserved c =
     let answer = ap (λ (b : Blob). is_directory_slot b.slot) (sym is) ∙ sym c.is_directory.ensures in
     elim c.if-is_directory.branch [
       | then-is_directory w ↦
-          let below : k < blob_count signature = subst (λ (s : Superblob). k < s.count) c.superblob_of-superblob.ensures c.loop-index-test.true in
+          let below = counted signature _ c.superblob_of-superblob.ensures k c.loop-index-test.true in
           let number : w.slot_number.result ≡ slot_number (blob_at signature k).slot = w.slot_number.ensures.number ∙ ap (λ (b : Blob). slot_number b.slot) is in
           let bytes : w.blob_bytes.result.now ≡ bytes_at signature k = w.blob_bytes.ensures ∙ ap (blob_bytes signature) is in
           let found = subst (λ (blob : List ℕ). IsDirectoryOf blob w.directory_of.result) bytes w.directory_of.ensures in

@@ -4,11 +4,11 @@ use Rattle.macho_fields.specs.Bytes.{bytes_of}
 use Rattle.macho_fields.specs.FirstPlace.{IsLeastPlace}
 use Rattle.macho_sealed.specs.Signature.{IsRepeated, RepeatedDirectory}
 use Rattle.macho_sealed.specs.Slots.{slot_number, AreTaken}
+use Rattle.macho_sealed.proofs.Blobs.{counted}
 use Rattle.macho_sealed.proofs.Firsts.{first_at, none_more}
 use Rattle.macho_sealed.proofs.TakenSlots.{none_taken, other_kept, one_taken, taken_repeats, free_not_repeats, other_not_repeats}
 use Rattle.macho_signature.specs.Superblobs.{blob_at, blob_count, entry_offset, is_directory_slot}
 use Rattle.macho_signature.specs.declared.superblob.Blob.{Blob}
-use Rattle.macho_signature.specs.declared.superblob.Superblob.{Superblob}
 use Rattle.macho_sealed.proofs.repeated.first_repeated.Goals as goal
 use Rattle.macho_sealed.proofs.repeated.first_repeated.Goals.{then-is_directory+else-is_taken-number, else-is_directory}
 
@@ -20,7 +20,7 @@ returns-then-is_taken-number c =
     let signature = bytes_of c.args.signature in
     let k = c.loop-index.index in
     let is = c.blob_at-blob.ensures.blob in
-    let less : k < blob_count signature = subst (λ (s : Superblob). k < s.count) c.superblob_of-superblob.ensures c.loop-index-test.true in
+    let less = counted signature _ c.superblob_of-superblob.ensures k c.loop-index-test.true in
     let directory : is_directory_slot (blob_at signature k).slot ≡ true = ap (λ (b : Blob). is_directory_slot b.slot) (sym is) ∙ (sym c.is_directory.ensures ∙ c.if-is_directory.true) in
     let number : c.slot_number-number.result ≡ slot_number (blob_at signature k).slot = c.slot_number-number.ensures.number ∙ ap (λ (b : Blob). slot_number b.slot) is in
     let has = subst (λ n. get_or c.loop-index.is_taken n false ≡ true) number c.if-is_taken-number.true in

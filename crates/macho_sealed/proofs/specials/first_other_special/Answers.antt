@@ -4,12 +4,12 @@ use Rattle.macho_fields.specs.Bytes.{bytes_of}
 use Rattle.macho_fields.specs.FirstPlace.{IsLeastPlace}
 use Rattle.macho_sealed.specs.Directories.{EachDirectory, AnyDirectory, HasSpecial, LacksSpecial, HaveOtherSpecial}
 use Rattle.macho_sealed.specs.Specials.{is_special_slot}
+use Rattle.macho_sealed.proofs.Blobs.{counted}
 use Rattle.macho_sealed.proofs.Firsts.{none_more}
 use Rattle.macho_sealed.proofs.SharedSpecials.{LackSpecial, none_lacks_special, first_lack_special}
 use Rattle.macho_signature.specs.Signature.{bytes_at}
 use Rattle.macho_signature.specs.Superblobs.{blob_at, blob_bytes, blob_count}
 use Rattle.macho_signature.specs.declared.superblob.Blob.{Blob}
-use Rattle.macho_signature.specs.declared.superblob.Superblob.{Superblob}
 use Rattle.macho_sealed.proofs.specials.first_other_special.Goals as goal
 use Rattle.macho_sealed.proofs.specials.first_other_special.Goals.{else-is_special_slot-via-then-is_special_slot+else-not-have_special, else-is_special_slot-via-else-is_special_slot}
 
@@ -19,7 +19,7 @@ returns-then-not-have_special c =
     let directories = c.args.directories.now in
     let k = c.loop-index.index in
     let is = c.blob_at-special.ensures.blob in
-    let less : k < blob_count signature = subst (λ (s : Superblob). k < s.count) c.superblob_of-superblob.ensures c.loop-index-test.true in
+    let less = counted signature _ c.superblob_of-superblob.ensures k c.loop-index-test.true in
     let special : is_special_slot (blob_at signature k).slot ≡ true = ap (λ (b : Blob). is_special_slot b.slot) (sym is) ∙ (sym c.is_special_slot.ensures ∙ c.if-is_special_slot.true) in
     let message : c.blob_bytes.result.now ≡ bytes_at signature k = c.blob_bytes.ensures ∙ ap (blob_bytes signature) is in
     let lack =
