@@ -9,6 +9,7 @@ ghost use Rattle.macho_fields.specs.FirstPlace.{IsLeastPlace};
 ghost use Rattle.macho_chains.specs.ChainImports.{ImportsEndPast, MayShare, BreaksChainTotal, AreLeastImports};
 
 use crate::chain_header::{ChainHeader, ImportFormat};
+use crate::chains::Chains;
 use macho_fields::{Bytes, Order, Span, Width};
 use macho_tables::fields::word_at;
 use macho_tables::limits::SPECIAL_ORDINALS;
@@ -154,16 +155,16 @@ impl ImportSurvey {
     ghost use Rattle.macho_chains.specs.ChainImports.{AreLeastImports, unbroken_imports};
 
     /// Goes over the imports, once. The image loads so many libraries.
-    pub fn of(chains: Bytes, header: ChainHeader, libraries: u64) -> ImportSurvey
-        ensures { AreLeastImports libraries (bytes_of chains.entry) header result }
+    pub fn of(chains: Chains, libraries: u64) -> ImportSurvey
+        ensures { AreLeastImports libraries (bytes_of chains.entry.bytes) chains.entry.header result }
     {
-        if header.imports_end_past(chains) {
+        if chains.header.imports_end_past(chains.bytes) {
             return ImportSurvey {
                 imports: Some(0),
                 ..ImportSurvey::unbroken()
             };
         }
-        survey(chains, header, libraries)
+        survey(chains, libraries)
     }
 
     // No rule is broken.
@@ -179,19 +180,20 @@ impl ImportSurvey {
 }
 
 // Goes over the imports, which end in the table.
-fn survey(chains: Bytes, header: ChainHeader, libraries: u64) -> ImportSurvey
-    requires { ¬ ImportsEndPast (bytes_of chains) header }
-    ensures { AreLeastImports libraries (bytes_of chains.entry) header result }
+fn survey(chains: Chains, libraries: u64) -> ImportSurvey
+    requires { ¬ ImportsEndPast (bytes_of chains.bytes) chains.header }
+    ensures { AreLeastImports libraries (bytes_of chains.entry.bytes) chains.entry.header result }
 {
-    let end = zeros_end(chains);
+    let Chains { bytes, header, .. } = chains;
+    let end = zeros_end(bytes);
     let mut found = ImportSurvey::unbroken();
     let mut shared = None;
     let mut before = None;
     for index in 0..header.imports_count {
         let offset = header.import_offset(index);
-        let import = Import::read(chains, header.imports_format, offset);
+        let import = Import::read(bytes, header.imports_format, offset);
         let name = header.name_of(import);
-        let is_shared = may_share(chains, before, name);
+        let is_shared = may_share(bytes, before, name);
         note_if(&mut shared, is_shared, offset);
         before = Some(name);
         note_if(&mut found.imports, name >= end, offset);
@@ -202,7 +204,7 @@ fn survey(chains: Bytes, header: ChainHeader, libraries: u64) -> ImportSurvey
         // The names share no byte, and end in the table, so they have no more bytes than it.
         (None, None) => found,
         _ => ImportSurvey {
-            total: first_past_total(chains, header),
+            total: first_past_total(chains),
             ..found
         },
     }
@@ -226,14 +228,15 @@ fn may_share(chains: Bytes, before: Option<u64>, name: u64) -> bool
 
 // The first import with which the names have more bytes than the table, where the imports end in it. No name
 // is read past it.
-fn first_past_total(chains: Bytes, header: ChainHeader) -> Option<u64>
-    requires { ¬ ImportsEndPast (bytes_of chains) header }
-    ensures { IsLeastPlace (BreaksChainTotal (bytes_of chains.entry) header) result }
+fn first_past_total(chains: Chains) -> Option<u64>
+    requires { ¬ ImportsEndPast (bytes_of chains.bytes) chains.header }
+    ensures { IsLeastPlace (BreaksChainTotal (bytes_of chains.entry.bytes) chains.entry.header) result }
 {
+    let Chains { bytes, header, .. } = chains;
     let mut total: u128 = 0;
     for index in 0..header.imports_count {
-        total += name_size(chains, header.name_start(chains, index));
-        if total > u128::from(chains.len()) {
+        total += name_size(bytes, header.name_start(bytes, index));
+        if total > u128::from(bytes.len()) {
             return Some(header.import_offset(index));
         }
     }

@@ -11,10 +11,9 @@ ghost use Rattle.macho_chains.specs.ChainPointers.{Fits, HasBadNext, BindsNone, 
 ghost use Rattle.macho_chains.specs.ChainStarts.{entry_offset};
 ghost use Rattle.macho_tables.specs.Items.{OfItem};
 
-use crate::chain_header::ChainHeader;
 use crate::chain_pointers::ChainPointer;
 use crate::chain_starts::{SegmentStarts, has_bad_entries};
-use crate::chains::ChainedFixups;
+use crate::chains::{ChainedFixups, Chains};
 use macho_fields::header::fixup_chains::{
     DYLD_CHAINED_PTR_START_NONE, DYLD_CHAINED_STARTS_IN_SEGMENT_SIZE, PAGE_START_SIZE,
     SEG_INFO_OFFSET_SIZE,
@@ -55,7 +54,14 @@ impl PointerSurvey {
             return PointerSurvey::unbroken();
         };
         match table.header {
-            Some(header) => survey(image, table.start, table.bytes, header),
+            Some(header) => {
+                let chains = Chains {
+                    start: table.start,
+                    bytes: table.bytes,
+                    header,
+                };
+                survey(image, chains)
+            }
             None => PointerSurvey::unbroken(),
         }
     }
@@ -81,18 +87,20 @@ impl PointerSurvey {
     }
 }
 
-// Follows the chains of all segments. The table, which has the header, begins at `table`.
-fn survey(image: &Image, table: u64, chains: Bytes, header: ChainHeader) -> PointerSurvey
+// Follows the chains of all segments.
+fn survey(image: &Image, chains: Chains) -> PointerSurvey
     requires unbroken { NothingBreaks (Breaks image.now None) }
-    requires table { table + length (bytes_of chains) < 2 ^ 64 }
-    ensures { AreLeastPlaces (BreaksChainSlot image.now table (bytes_of chains.entry) header)
-        (BreaksChainBind image.now table (bytes_of chains.entry) header) result }
+    requires table { chains.start + length (bytes_of chains.bytes) < 2 ^ 64 }
+    ensures { AreLeastPlaces
+        (BreaksChainSlot image.now chains.entry.start (bytes_of chains.entry.bytes) chains.entry.header)
+        (BreaksChainBind image.now chains.entry.start (bytes_of chains.entry.bytes) chains.entry.header) result }
 {
     let mut found = PointerSurvey::unbroken();
-    let Some(count) = chains.u32_at(Order::Little, u64::from(header.starts_offset)) else {
+    let starts_offset = u64::from(chains.header.starts_offset);
+    let Some(count) = chains.bytes.u32_at(Order::Little, starts_offset) else {
         return found;
     };
-    if has_bad_entries(image, chains, header, count) {
+    if has_bad_entries(image, chains, count) {
         return found;
     }
     let encryption = Encryption::of(image);
@@ -101,7 +109,7 @@ fn survey(image: &Image, table: u64, chains: Bytes, header: ChainHeader) -> Poin
         if index == count {
             return found;
         }
-        let other = segment_survey(image, &segment, encryption, table, chains, header, index);
+        let other = segment_survey(image, &segment, encryption, chains, index);
         found = found.joined(other);
         index += 1;
     }
@@ -113,31 +121,30 @@ fn segment_survey(
     image: &Image,
     segment: &Segment,
     encryption: Encryption,
-    table: u64,
-    chains: Bytes,
-    header: ChainHeader,
+    chains: Chains,
     index: u32,
 ) -> PointerSurvey
     requires image { segment.now.image ≡ image.now }
     requires structure { segment.now.place + SEGMENT_COMMAND_64_SIZE ≤ length segment.now.image }
     requires file { ¬ PassesImage segment.now.image segment.now.place }
     requires encryption { IsEncryptionOf image.now encryption }
-    requires table { table + length (bytes_of chains) < 2 ^ 64 }
-    requires entry { entry_offset header index + SEG_INFO_OFFSET_SIZE ≤ length (bytes_of chains) }
+    requires table { chains.start + length (bytes_of chains.bytes) < 2 ^ 64 }
+    requires entry { entry_offset chains.header index + SEG_INFO_OFFSET_SIZE ≤ length (bytes_of chains.bytes) }
     ensures { AreLeastPlaces
-        (OfPages (bytes_of chains.entry) header index
-        (BreaksPageSlot segment.now.image table (bytes_of chains.entry) segment.now.place))
-        (OfPages (bytes_of chains.entry) header index
-        (BreaksPageBind header.imports_count segment.now.image (bytes_of chains.entry) segment.now.place))
+        (OfPages (bytes_of chains.entry.bytes) chains.entry.header index
+        (BreaksPageSlot segment.now.image chains.entry.start (bytes_of chains.entry.bytes) segment.now.place))
+        (OfPages (bytes_of chains.entry.bytes) chains.entry.header index
+        (BreaksPageBind chains.entry.header.imports_count segment.now.image (bytes_of chains.entry.bytes)
+        segment.now.place))
         result }
 {
-    match header.starts_of(chains, index) {
+    match chains.header.starts_of(chains.bytes, index) {
         Some(starts) => {
             let limits = ChainLimits {
                 room: room_beside(image, segment, encryption),
-                imports: header.imports_count,
+                imports: chains.header.imports_count,
             };
-            pages_survey(segment, table, chains, starts, limits)
+            pages_survey(segment, chains, starts, limits)
         }
         None => PointerSurvey::unbroken(),
     }
@@ -223,25 +230,24 @@ fn is_clear(image: &Image, span: Span, encryption: Encryption) -> bool
 // Follows the chains of the pages of the segment, which has these starts.
 fn pages_survey(
     segment: &Segment,
-    table: u64,
-    chains: Bytes,
+    chains: Chains,
     starts: SegmentStarts,
     limits: ChainLimits,
 ) -> PointerSurvey
     requires file { ¬ PassesImage segment.now.image segment.now.place }
     requires room { IsRoom segment.now.image segment.now.place limits.room }
-    requires table { table + length (bytes_of chains) < 2 ^ 64 }
-    requires starts { page_start_offset starts starts.page_count ≤ length (bytes_of chains) }
+    requires table { chains.start + length (bytes_of chains.bytes) < 2 ^ 64 }
+    requires starts { page_start_offset starts starts.page_count ≤ length (bytes_of chains.bytes) }
     ensures { AreLeastPlaces
         (OfItem starts.page_count
-        (BreaksPageSlot segment.now.image table (bytes_of chains.entry) segment.now.place starts))
+        (BreaksPageSlot segment.now.image chains.entry.start (bytes_of chains.entry.bytes) segment.now.place starts))
         (OfItem starts.page_count
-        (BreaksPageBind limits.imports segment.now.image (bytes_of chains.entry) segment.now.place starts))
+        (BreaksPageBind limits.imports segment.now.image (bytes_of chains.entry.bytes) segment.now.place starts))
         result }
 {
     let mut found = PointerSurvey::unbroken();
     for page in 0..starts.page_count {
-        let other = page_survey(segment, table, chains, starts, page, limits);
+        let other = page_survey(segment, chains, starts, page, limits);
         found = found.joined(other);
     }
     found
@@ -250,27 +256,26 @@ fn pages_survey(
 // Follows the chain of a page.
 fn page_survey(
     segment: &Segment,
-    table: u64,
-    chains: Bytes,
+    chains: Chains,
     starts: SegmentStarts,
     page: u16,
     limits: ChainLimits,
 ) -> PointerSurvey
     requires file { ¬ PassesImage segment.now.image segment.now.place }
     requires room { IsRoom segment.now.image segment.now.place limits.room }
-    requires table { table + length (bytes_of chains) < 2 ^ 64 }
-    requires start { page_start_offset starts page + PAGE_START_SIZE ≤ length (bytes_of chains) }
+    requires table { chains.start + length (bytes_of chains.bytes) < 2 ^ 64 }
+    requires start { page_start_offset starts page + PAGE_START_SIZE ≤ length (bytes_of chains.bytes) }
     ensures { AreLeastPlaces
-        (BreaksPageSlot segment.now.image table (bytes_of chains.entry) segment.now.place starts page)
-        (BreaksPageBind limits.imports segment.now.image (bytes_of chains.entry) segment.now.place starts page)
+        (BreaksPageSlot segment.now.image chains.entry.start (bytes_of chains.entry.bytes) segment.now.place starts page)
+        (BreaksPageBind limits.imports segment.now.image (bytes_of chains.entry.bytes) segment.now.place starts page)
         result }
 {
-    let Some(first) = starts.first_offset(chains, page) else {
+    let Some(first) = starts.first_offset(chains.bytes, page) else {
         return PointerSurvey::unbroken();
     };
     if first + POINTER_SIZE > starts.page_limit(page, limits.room) {
         return PointerSurvey {
-            slot: Some(table + starts.page_start_offset(page)),
+            slot: Some(chains.start + starts.page_start_offset(page)),
             bind: None,
         };
     }

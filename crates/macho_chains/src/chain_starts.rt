@@ -11,6 +11,7 @@ ghost use Rattle.macho_chains.specs.ChainStarts.{are_whole as are_whole_of, entr
 ghost use Rattle.macho_tables.specs.Items.{IsFirstItem};
 
 use crate::chain_header::ChainHeader;
+use crate::chains::Chains;
 use macho_fields::header::fixup_chains::*;
 use macho_fields::{Bytes, Order, Span};
 use macho_image::{Image, Segment};
@@ -140,27 +141,29 @@ fn are_whole(chains: Bytes, offset: u64) -> bool
 /// Where the starts are first broken: at the offset 0, if `seg_count` ends past the table; at `seg_count`, if
 /// there are more entries than segments, or they end past the table; and otherwise at the first entry whose
 /// starts are bad.
-pub fn chain_starts(image: &Image, chains: Bytes, header: ChainHeader) -> Option<u64>
-    ensures { IsLeastPlace (BreaksChainStarts image.now (bytes_of chains.entry) header) result }
+pub fn chain_starts(image: &Image, chains: Chains) -> Option<u64>
+    ensures { IsLeastPlace (BreaksChainStarts image.now (bytes_of chains.entry.bytes) chains.entry.header) result }
 {
-    let starts_offset = u64::from(header.starts_offset);
-    let Some(count) = chains.u32_at(Order::Little, starts_offset) else {
+    let starts_offset = u64::from(chains.header.starts_offset);
+    let Some(count) = chains.bytes.u32_at(Order::Little, starts_offset) else {
         return Some(0);
     };
-    if has_bad_entries(image, chains, header, count) {
+    if has_bad_entries(image, chains, count) {
         return Some(starts_offset);
     }
-    match first_with_bad_starts(image, chains, header, count) {
-        Some(index) => Some(header.entry_offset(index)),
+    match first_with_bad_starts(image, chains, count) {
+        Some(index) => Some(chains.header.entry_offset(index)),
         None => None,
     }
 }
 
 // Whether there are more entries than segments, or some past the table.
-pub(crate) fn has_bad_entries(image: &Image, chains: Bytes, header: ChainHeader, count: u32) -> bool
-    ensures { IsTrue result ↔ HasBadEntries image.now (bytes_of chains.entry) header count }
+pub(crate) fn has_bad_entries(image: &Image, chains: Chains, count: u32) -> bool
+    ensures { IsTrue result
+        ↔ HasBadEntries image.now (bytes_of chains.entry.bytes) chains.entry.header count }
 {
-    u64::from(count) > segment_count(image) || header.entry_offset(count) > chains.len()
+    u64::from(count) > segment_count(image)
+        || chains.header.entry_offset(count) > chains.bytes.len()
 }
 
 /// How many segments the image has.
@@ -171,14 +174,10 @@ pub fn segment_count(image: &Image) -> u64
 }
 
 // The index of the first segment whose starts are bad.
-fn first_with_bad_starts(
-    image: &Image,
-    chains: Bytes,
-    header: ChainHeader,
-    count: u32,
-) -> Option<u32>
-    requires { ¬ HasBadEntries image.now (bytes_of chains) header count }
-    ensures { IsFirstItem count (HasBadStarts image.now (bytes_of chains.entry) header) result }
+fn first_with_bad_starts(image: &Image, chains: Chains, count: u32) -> Option<u32>
+    requires { ¬ HasBadEntries image.now (bytes_of chains.bytes) chains.header count }
+    ensures { IsFirstItem count
+        (HasBadStarts image.now (bytes_of chains.entry.bytes) chains.entry.header) result }
 {
     let base = image.base();
     let mut index = 0;
@@ -187,7 +186,7 @@ fn first_with_bad_starts(
         if index == count {
             return None;
         }
-        let Some(next) = past_starts(&segment, base, chains, header, index, reach) else {
+        let Some(next) = past_starts(&segment, base, chains, index, reach) else {
             return Some(index);
         };
         reach = next;
@@ -201,24 +200,24 @@ fn first_with_bad_starts(
 fn past_starts(
     segment: &Segment,
     base: Option<u64>,
-    chains: Bytes,
-    header: ChainHeader,
+    chains: Chains,
     index: u32,
     reach: u128,
 ) -> Option<u128>
     requires base { base ≡ base_of segment.now.image (commands_of segment.now.image) }
     requires segment { slice_index (all_segments segment.now.image) index ≡ segment.now.place }
-    requires inside { entry_offset header index + 4 ≤ length (bytes_of chains) }
-    requires reach { IsReach (bytes_of chains) header index reach }
+    requires inside { entry_offset chains.header index + 4 ≤ length (bytes_of chains.bytes) }
+    requires reach { IsReach (bytes_of chains.bytes) chains.header index reach }
     ensures { MatchOption result
-        (HasBadStarts segment.now.image (bytes_of chains.entry) header index)
-        (λ next. (¬ HasBadStarts segment.now.image (bytes_of chains.entry) header index)
-        × IsReach (bytes_of chains.entry) header (suc index) next) }
+        (HasBadStarts segment.now.image (bytes_of chains.entry.bytes) chains.entry.header index)
+        (λ next. (¬ HasBadStarts segment.now.image (bytes_of chains.entry.bytes) chains.entry.header index)
+        × IsReach (bytes_of chains.entry.bytes) chains.entry.header (suc index) next) }
 {
-    if header.seg_info_offset(chains, index) == 0 {
+    let Chains { bytes, header, .. } = chains;
+    if header.seg_info_offset(bytes, index) == 0 {
         return Some(reach);
     }
-    let starts = header.starts_of(chains, index)?;
+    let starts = header.starts_of(bytes, index)?;
     if reach <= u128::from(starts.offset) && starts.are_of(segment, base) {
         Some(starts.end())
     } else {

@@ -26,6 +26,17 @@ pub struct ChainedFixups<'a> {
     pub table: Option<ChainTable<'a>>,
 }
 
+/// A table of chained fixups whose header is known.
+#[derive(Clone, Copy, Debug)]
+pub struct Chains<'a> {
+    /// Where it begins in the image.
+    pub start: u64,
+    /// Its bytes.
+    pub bytes: Bytes<'a>,
+    /// Its header.
+    pub header: ChainHeader,
+}
+
 /// A table of chained fixups.
 #[derive(Clone, Copy, Debug)]
 pub struct ChainTable<'a> {
@@ -155,21 +166,25 @@ fn survey(image: &Image, table: ChainTable) -> ChainSurvey
     requires { table.header ≡ chain_header (bytes_of table.bytes) }
     ensures { AreLeastInTable image.now (bytes_of table.entry.bytes) result }
 {
-    let chains = table.bytes;
     let Some(header) = table.header else {
         return ChainSurvey {
             header: Some(0),
             ..ChainSurvey::unbroken()
         };
     };
+    let chains = Chains {
+        start: table.start,
+        bytes: table.bytes,
+        header,
+    };
     let ImportSurvey {
         imports,
         total,
         library,
-    } = ImportSurvey::of(chains, header, library_count(image));
+    } = ImportSurvey::of(chains, library_count(image));
     ChainSurvey {
         header: None,
-        starts: chain_starts(image, chains, header),
+        starts: chain_starts(image, chains),
         imports,
         total,
         library,

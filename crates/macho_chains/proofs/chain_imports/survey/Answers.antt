@@ -8,12 +8,12 @@ use Rattle.macho_chains.proofs.ChainImports.{AreWalked, import_inside, walked_mo
 use Rattle.macho_chains.proofs.chain_imports.survey.Goals as goal
 
 pub read-import-requires : goal.read-import-requires
-read-import-requires c = rw c.import_offset-offset.ensures (import_inside (bytes_of c.args.chains) c.args.header c.requires c.loop-index.index c.loop-index-test.true)
+read-import-requires c = rw c.import_offset-offset.ensures (import_inside (bytes_of c.args.chains.bytes) c.args.chains.header c.requires c.loop-index.index c.loop-index-test.true)
 
 pub loop-index-preserved : goal.loop-index-preserved
 loop-index-preserved c =
-    let chains = bytes_of c.args.chains in
-    let header = c.args.header in
+    let chains = bytes_of c.args.chains.bytes in
+    let header = c.args.chains.header in
     let index = c.loop-index.index in
     let import : c.read-import.result ≡ import_of chains header index = c.read-import.ensures ∙ ap (import_at chains header.imports_format) c.import_offset-offset.ensures in
     let name : c.name_of-name.result ≡ import_name_start chains header index = c.name_of-name.ensures ∙ ap (λ (i : Import). header.symbols_offset + i.name_offset) import in
@@ -29,12 +29,12 @@ loop-index-preserved c =
 
 pub returns-in-None-None : goal.returns-in-None-None
 returns-in-None-None c =
-    let all : c.loop-index.index ≡ c.args.header.imports_count = omega (arith, c.loop-index.auto.index-end, c.loop-index-test.false) in
-    let walked = subst (λ (n : ℕ). AreWalked c.args.libraries (bytes_of c.args.chains) c.args.header n c.loop-index.before c.loop-index.shared c.loop-index.found) all c.loop-index.invariant in
-    walked_apart c.args.libraries (bytes_of c.args.chains) c.args.header c.requires c.loop-index.before c.loop-index.shared c.loop-index.found walked c.in-None-None.is-0 c.in-None-None.is-1
+    let all : c.loop-index.index ≡ c.args.chains.header.imports_count = omega (arith, c.loop-index.auto.index-end, c.loop-index-test.false) in
+    let walked = subst (λ (n : ℕ). AreWalked c.args.libraries (bytes_of c.args.chains.bytes) c.args.chains.header n c.loop-index.before c.loop-index.shared c.loop-index.found) all c.loop-index.invariant in
+    walked_apart c.args.libraries (bytes_of c.args.chains.bytes) c.args.chains.header c.requires c.loop-index.before c.loop-index.shared c.loop-index.found walked c.in-None-None.is-0 c.in-None-None.is-1
 
 pub returns-in_default : goal.returns-in_default
 returns-in_default c =
-    let all : c.loop-index.index ≡ c.args.header.imports_count = omega (arith, c.loop-index.auto.index-end, c.loop-index-test.false) in
-    let walked = subst (λ (n : ℕ). AreWalked c.args.libraries (bytes_of c.args.chains) c.args.header n c.loop-index.before c.loop-index.shared c.loop-index.found) all c.loop-index.invariant in
-    walked_all c.args.libraries (bytes_of c.args.chains) c.args.header c.requires c.loop-index.before c.loop-index.shared c.loop-index.found walked c.first_past_total.result c.first_past_total.ensures
+    let all : c.loop-index.index ≡ c.args.chains.header.imports_count = omega (arith, c.loop-index.auto.index-end, c.loop-index-test.false) in
+    let walked = subst (λ (n : ℕ). AreWalked c.args.libraries (bytes_of c.args.chains.bytes) c.args.chains.header n c.loop-index.before c.loop-index.shared c.loop-index.found) all c.loop-index.invariant in
+    walked_all c.args.libraries (bytes_of c.args.chains.bytes) c.args.chains.header c.requires c.loop-index.before c.loop-index.shared c.loop-index.found walked c.first_past_total.result c.first_past_total.ensures

@@ -10,9 +10,9 @@ pub returns-in_default : goal.returns-in_default
 returns-in_default c =
     let image = c.args.segment.now.image in
     let segment = c.args.segment.now.place in
-    let chains = bytes_of c.args.chains in
+    let chains = bytes_of c.args.chains.bytes in
     rw c.unbroken.ensures (record {
-      slot = page_unchained image segment c.args.starts c.args.page c.args.table chains c.in_default.ensures.first;
+      slot = page_unchained image segment c.args.starts c.args.page c.args.chains.start chains c.in_default.ensures.first;
       bind = bind_unchained image segment c.args.starts c.args.page c.args.limits.imports chains c.in_default.ensures.first;
     })
 
@@ -22,13 +22,13 @@ returns-then-first-page_limit c =
     let segment = c.args.segment.now.place in
     let starts = c.args.starts in
     let page = c.args.page in
-    let chains = bytes_of c.args.chains in
+    let chains = bytes_of c.args.chains.bytes in
     let (has, at) = c.in-Some.ensures.first in
     let out : ¬ Fits image segment starts page (first_offset chains starts page) = λ fits.
     let low = (limit_fits image segment starts page c.args.limits.room c.page_limit.result c.requires.room c.page_limit.ensures (first_offset chains starts page)).1 fits in
     omega (arith, low, at, c.if-first-page_limit.true) in record {
-      slot = subst (λ (n : ℕ). IsLeastPlace (BreaksPageSlot image c.args.table chains segment starts page) (Some (c.args.table + n))) (sym c.page_start_offset.ensures)
-          (page_unstarted image segment starts page c.args.table chains has out);
+      slot = subst (λ (n : ℕ). IsLeastPlace (BreaksPageSlot image c.args.chains.start chains segment starts page) (Some (c.args.chains.start + n))) (sym c.page_start_offset.ensures)
+          (page_unstarted image segment starts page c.args.chains.start chains has out);
       bind = bind_unstarted image segment starts page c.args.limits.imports chains out;
     }
 
@@ -42,11 +42,11 @@ returns c =
     let segment = c.args.segment.now.place in
     let starts = c.args.starts in
     let page = c.args.page in
-    let chains = bytes_of c.args.chains in
+    let chains = bytes_of c.args.chains.bytes in
     let (has, at) = c.in-Some.ensures.first in
     let fits = subst (Fits image segment starts page) at
     ((limit_fits image segment starts page c.args.limits.room c.page_limit.result c.requires.room c.page_limit.ensures c.in-Some.first).0 c.if-first-page_limit.false) in record {
-      slot = page_slot image segment starts page c.args.table chains has fits c.chain_survey.result.slot
+      slot = page_slot image segment starts page c.args.chains.start chains has fits c.chain_survey.result.slot
           (subst (λ (n : ℕ). IsLeastPlace (AtPointer image segment starts page n (HasBadNext image segment starts page)) c.chain_survey.result.slot) at c.chain_survey.ensures.slot);
       bind = page_bind image segment starts page c.args.limits.imports chains has c.chain_survey.result.bind
           (subst (λ (n : ℕ). IsLeastPlace (AtPointer image segment starts page n (BindsNone image segment starts c.args.limits.imports)) c.chain_survey.result.bind) at c.chain_survey.ensures.bind);

@@ -15,12 +15,12 @@ use Rattle.macho_chains.proofs.chain_pages.survey.Goals as goal
 pub returns-then-index-count : goal.returns-then-index-count
 returns-then-index-count c =
     let image = c.args.image.now in
-    let chains = bytes_of c.args.chains in
-    let header = c.args.header in
-    let is : seg_count chains header ≡ Some c.in-Some.count = sym (c.in-Some.ensures ∙ ap (field Little 4 chains) c.from.ensures) in
+    let chains = bytes_of c.args.chains.bytes in
+    let header = c.args.chains.header in
+    let is : seg_count chains header ≡ Some c.in-Some.count = sym (c.in-Some.ensures ∙ ap (field Little 4 chains) c.from-starts_offset.ensures) in
     let good : ¬ HasBadEntries image chains header c.in-Some.count = λ bad. false≢true (sym c.if-has_bad_entries.false ∙ c.has_bad_entries.ensures.1 bad) in
-    entries_good image c.args.table chains header c.in-Some.count is good c.loop-segment.found
-    (subst (λ (n : ℕ). AreLeastPlaces (OfItem n (SlotOf image c.args.table chains header)) (OfItem n (BindOf image c.args.table chains header)) c.loop-segment.found) c.if-index-count.true c.loop-segment.invariant.4)
+    entries_good image c.args.chains.start chains header c.in-Some.count is good c.loop-segment.found
+    (subst (λ (n : ℕ). AreLeastPlaces (OfItem n (SlotOf image c.args.chains.start chains header)) (OfItem n (BindOf image c.args.chains.start chains header)) c.loop-segment.found) c.if-index-count.true c.loop-segment.invariant.4)
 
 pub segment_survey-other-requires-clause-image : goal.segment_survey-other-requires-clause-image
 segment_survey-other-requires-clause-image c =
@@ -39,9 +39,9 @@ segment_survey-other-requires-clause-file c =
 pub loop-segment-preserved : goal.loop-segment-preserved
 loop-segment-preserved c =
     let image = c.args.image.now in
-    let table = c.args.table in
-    let chains = bytes_of c.args.chains in
-    let header = c.args.header in
+    let table = c.args.chains.start in
+    let chains = bytes_of c.args.chains.bytes in
+    let header = c.args.chains.header in
     let index = c.loop-segment.index in
     let segment = c.in-Some-segment.segment in
     let are = c.into_iter-segment-iterator.ensures.into_iter_gives ∙ c.segments-segment-items.ensures.segments in
@@ -63,14 +63,14 @@ loop-segment-preserved c =
 pub returns : goal.returns
 returns c =
     let image = c.args.image.now in
-    let chains = bytes_of c.args.chains in
-    let header = c.args.header in
+    let chains = bytes_of c.args.chains.bytes in
+    let header = c.args.chains.header in
     let count = c.in-Some.count in
-    let is : seg_count chains header ≡ Some count = sym (c.in-Some.ensures ∙ ap (field Little 4 chains) c.from.ensures) in
+    let is : seg_count chains header ≡ Some count = sym (c.in-Some.ensures ∙ ap (field Little 4 chains) c.from-starts_offset.ensures) in
     let good : ¬ HasBadEntries image chains header count = λ bad. false≢true (sym c.if-has_bad_entries.false ∙ c.has_bad_entries.ensures.1 bad) in
     let are = c.into_iter-segment-iterator.ensures.into_iter_gives ∙ c.segments-segment-items.ensures.segments in
     let past = entries_passed image chains header _ _ count c.loop-segment.index are c.loop-segment.invariant.2 c.in-None.ensures.steps.0 good in
     let few = c.loop-segment.invariant.3 in
     let all : c.loop-segment.index ≡ count = omega (arith, past, few) in
-    entries_good image c.args.table chains header count is good c.loop-segment.found
-    (subst (λ (n : ℕ). AreLeastPlaces (OfItem n (SlotOf image c.args.table chains header)) (OfItem n (BindOf image c.args.table chains header)) c.loop-segment.found) all c.loop-segment.invariant.4)
+    entries_good image c.args.chains.start chains header count is good c.loop-segment.found
+    (subst (λ (n : ℕ). AreLeastPlaces (OfItem n (SlotOf image c.args.chains.start chains header)) (OfItem n (BindOf image c.args.chains.start chains header)) c.loop-segment.found) all c.loop-segment.invariant.4)

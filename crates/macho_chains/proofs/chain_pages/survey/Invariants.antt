@@ -10,4 +10,4 @@ abbrev pub invariant-loop-segment : goal.invariant-loop-segment
 invariant-loop-segment l =
     (goal.iterator-loop-segment).can_next l.segment-iterator × (goal.iterator-loop-segment).is_finite l.segment-iterator
     × ArePassed l.initial.segment-iterator l.segment-iterator l.index × (l.index ≤ l.count)
-    × AreLeastPlaces (OfItem l.index (SlotOf l.image l.table l.chains.bytes.now l.header)) (OfItem l.index (BindOf l.image l.table l.chains.bytes.now l.header)) l.found
+    × AreLeastPlaces (OfItem l.index (SlotOf l.image l.chains.start l.chains.bytes.bytes.now l.chains.header)) (OfItem l.index (BindOf l.image l.chains.start l.chains.bytes.bytes.now l.chains.header)) l.found

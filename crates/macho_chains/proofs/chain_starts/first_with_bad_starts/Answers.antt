@@ -22,32 +22,32 @@ past_starts-requires-clause-segment c =
 
 pub returns-in_default : goal.returns-in_default
 returns-in_default c =
-    let chains = bytes_of c.args.chains in
+    let chains = bytes_of c.args.chains.bytes in
     let are = c.into_iter-segment-iterator.ensures.into_iter_gives ∙ c.segments-segment-items.ensures.segments in
     let same = its_image c.args.image.now _ _ c.loop-segment.index are c.loop-segment.invariant.2.passed c.in-Some.segment _ c.in-Some.ensures.steps in
     let few = c.loop-segment.invariant.2.few in
-    starts_bad c.args.image.now chains c.args.header _ _ c.args.count c.loop-segment.index c.loop-segment.reach c.loop-segment.invariant.2
+    starts_bad c.args.image.now chains c.args.chains.header _ _ c.args.count c.loop-segment.index c.loop-segment.reach c.loop-segment.invariant.2
     (omega (arith, few, c.if-index-count.false))
-    (subst (λ (image : List ℕ). HasBadStarts image chains c.args.header c.loop-segment.index) same c.in_default.ensures)
+    (subst (λ (image : List ℕ). HasBadStarts image chains c.args.chains.header c.loop-segment.index) same c.in_default.ensures)
 
 pub loop-segment-preserved : goal.loop-segment-preserved
 loop-segment-preserved c =
-    let chains = bytes_of c.args.chains in
+    let chains = bytes_of c.args.chains.bytes in
     let are = c.into_iter-segment-iterator.ensures.into_iter_gives ∙ c.segments-segment-items.ensures.segments in
     let same = its_image c.args.image.now _ _ c.loop-segment.index are c.loop-segment.invariant.2.passed c.in-Some.segment _ c.in-Some.ensures.steps in
     let few = c.loop-segment.invariant.2.few in
     let (good, on) = c.in-Some-past_starts.ensures in (
       tt,
       tt,
-      starts_more c.args.image.now chains c.args.header _ _ c.args.count c.loop-segment.index c.loop-segment.reach c.loop-segment.invariant.2 c.in-Some.segment _ c.in-Some.ensures.steps
+      starts_more c.args.image.now chains c.args.chains.header _ _ c.args.count c.loop-segment.index c.loop-segment.reach c.loop-segment.invariant.2 c.in-Some.segment _ c.in-Some.ensures.steps
           c.in-Some-past_starts.next (omega (arith, few, c.if-index-count.false))
-          (subst (λ (image : List ℕ). ¬ HasBadStarts image chains c.args.header c.loop-segment.index) same good) on,
+          (subst (λ (image : List ℕ). ¬ HasBadStarts image chains c.args.chains.header c.loop-segment.index) same good) on,
     )
 
 pub returns : goal.returns
 returns c =
-    let chains = bytes_of c.args.chains in
+    let chains = bytes_of c.args.chains.bytes in
     let are = c.into_iter-segment-iterator.ensures.into_iter_gives ∙ c.segments-segment-items.ensures.segments in
     let walk = c.loop-segment.invariant.2 in
-    starts_passed c.args.image.now chains c.args.header _ _ c.args.count c.loop-segment.index c.loop-segment.reach walk
-    (entries_passed c.args.image.now chains c.args.header _ _ c.args.count c.loop-segment.index are walk.passed c.in-None.ensures.steps.0 c.requires)
+    starts_passed c.args.image.now chains c.args.chains.header _ _ c.args.count c.loop-segment.index c.loop-segment.reach walk
+    (entries_passed c.args.image.now chains c.args.chains.header _ _ c.args.count c.loop-segment.index are walk.passed c.in-None.ensures.steps.0 c.requires)
