@@ -345,16 +345,16 @@ impl SegmentStarts {
     ghost use Rattle.macho_fields.specs.Bytes.{bytes_of};
     ghost use Rattle.macho_chains.specs.ChainPointers.{page_start, page_start_offset, first_offset, HasChain};
 
-    /// Where the chain of a page begins, as an offset in the page, or `DYLD_CHAINED_PTR_START_NONE`.
-    pub fn page_start(self, chains: Bytes, page: u16) -> u16
+    // Where the chain of a page begins, as an offset in the page, or `DYLD_CHAINED_PTR_START_NONE`.
+    fn page_start(self, chains: Bytes, page: u16) -> u16
         requires { page_start_offset self page + PAGE_START_SIZE ≤ length (bytes_of chains) }
         ensures { result ≡ page_start (bytes_of chains.entry) self page }
     {
         half_at(chains, self.page_start_offset(page))
     }
 
-    /// Where the table says this.
-    pub fn page_start_offset(self, page: u16) -> u64
+    // Where the table says this.
+    fn page_start_offset(self, page: u16) -> u64
         requires { page_start_offset self page < 2 ^ 64 }
         ensures { result ≡ page_start_offset self page }
     {
@@ -362,8 +362,8 @@ impl SegmentStarts {
         page_starts + u64::from(page) * PAGE_START_SIZE
     }
 
-    /// Where the chain of a page begins, as an offset in the segment. It is `None` if the page has no chain.
-    pub fn first_offset(self, chains: Bytes, page: u16) -> Option<u64>
+    // Where the chain of a page begins, as an offset in the segment. It is `None` if the page has no chain.
+    fn first_offset(self, chains: Bytes, page: u16) -> Option<u64>
         requires { page_start_offset self page + PAGE_START_SIZE ≤ length (bytes_of chains) }
         ensures first { MatchOption result (¬ HasChain (bytes_of chains.entry) self page)
             (λ first. HasChain (bytes_of chains.entry) self page
