@@ -27,6 +27,7 @@ use Rattle.macho_exports.specs.declared.exports.ExportSurvey.{ExportSurvey}
 use Rattle.macho_tables.specs.Numbers.{unsigned_at}
 use Rattle.macho_exports.proofs.ExportNodes.{met_headless}
 use Rattle.macho_exports.proofs.ExportTries.{number_ends}
+use Rattle.macho_tables.proofs.DataTables.{data_inside}
 use Rattle.macho_tables.proofs.NamedTables.{LieInside, bounds_opened, table_inside}
 use Rattle.macho_tables.proofs.Places.{named_first, info_has, least_moved}
 use Rattle.macho_tables.specs.Homes.{bytes_of_table}
@@ -38,9 +39,6 @@ module _ (image : List ℕ) (command : ℕ) where
   module _ (is : first_with_cmd image loader.LC_DYLD_EXPORTS_TRIE (commands_of image) ≡ Some command) where
     pub data_fields : IsOpened image → LieInside image command linkedit_data_table
     data_fields opened = bounds_opened image opened command LinkeditDataCommand (named_first image (λ n. structure_of n ≡ Some LinkeditDataCommand) loader.LC_DYLD_EXPORTS_TRIE refl command is) linkedit_data_table (0, lit< tt, refl)
-
-    pub data_inside : NothingBreaks (BreaksImage image None) → 0 < (table_at image command linkedit_data_table).1 → (table_at image command linkedit_data_table).0 + (table_at image command linkedit_data_table).1 ≤ length image
-    data_inside keeps = table_inside image keeps command LinkeditDataCommand (named_first image (λ n. structure_of n ≡ Some LinkeditDataCommand) loader.LC_DYLD_EXPORTS_TRIE refl command is) linkedit_data_table (0, lit< tt, refl) refl
 
   module _ (is : dyld_info image ≡ Some command) where
     pub info_fields : IsOpened image → LieInside image command (bounded_at 40)
@@ -136,7 +134,7 @@ module _ (image : List ℕ) (keeps : NothingBreaks (BreaksImage image None)) whe
 
   data_ends : (table : Span) (first : Option ℕ) → first_with_cmd image loader.LC_DYLD_EXPORTS_TRIE (commands_of image) ≡ first → option_map_or data_of first None ≡ Some table → end_of table ≤ length image
   data_ends table None none is = absurd (none-some table is)
-  data_ends table (Some command) some is = (some_inside image (bytes_of_table (table_at image command linkedit_data_table)) (Some table) (sym is) (data_inside image command some keeps)).0
+  data_ends table (Some command) some is = (some_inside image (bytes_of_table (table_at image command linkedit_data_table)) (Some table) (sym is) (data_inside image loader.LC_DYLD_EXPORTS_TRIE refl command some keeps)).0
 
   info_ends : (table : Span) (first : Option ℕ) → dyld_info image ≡ first → option_map_or info_of first None ≡ Some table → end_of table ≤ length image
   info_ends table None none is = absurd (none-some table is)

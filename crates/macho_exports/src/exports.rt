@@ -1,14 +1,17 @@
 //! The exports of an image, and where they first break each of their rules. (`mach-o/loader.h`:
 //! `linkedit_data_command`, `dyld_info_command`)
 
-ghost use Rattle.std.specs.Prelude.{◌≡◌, ◌↔◌, ◌≤◌, ◌<◌, List, ℕ, length, None, IfSome, IfOk, OnErr, IsTrue};
+ghost use Rattle.std.specs.Prelude.{◌≡◌, ◌↔◌, ◌+◌, ◌^◌, ◌≤◌, ◌<◌, List, ℕ, length, None, IfSome, IfOk, OnErr, IsTrue};
 ghost use Rattle.macho_fields.specs.Bytes.{bytes_of};
 ghost use Rattle.macho_fields.specs.Layers.{NothingBreaks};
 ghost use Rattle.macho_fields.specs.Rules.{BreaksImage as Breaks};
+ghost use Rattle.macho_fields.specs.Symbol.{table_at};
 ghost use Rattle.macho_image.specs.Opened.{IsOpened};
 ghost use Rattle.macho_spans.specs.Span.{end_of};
 ghost use Rattle.macho_exports.specs.ExportWalk.{have_meaning as have_meaning_of, whole_export};
 ghost use Rattle.macho_exports.specs.Exports.{export_table as export_table_of, exports_data as exports_data_of, info_exports as info_exports_of, some_bytes as some_bytes_of, is_absolute as is_absolute_of, IsNotedLeast, IsOfNoLibrary, AreLeastInTrie};
+ghost use Rattle.macho_tables.specs.Homes.{bytes_of_table};
+ghost use Rattle.macho_tables.specs.Places.{bounded_at as bounded_at_of};
 
 use crate::export_trie::{Export, Target};
 use crate::export_walk::Waiting;
@@ -143,8 +146,7 @@ fn exports_data(image: &Image) -> Option<Span>
     ensures some { IfSome result (λ table. 0 < table.len) }
 {
     let command = first_place(image, LC_DYLD_EXPORTS_TRIE)?;
-    let table = span_of(image, command, bounded_at(DATAOFF));
-    some_bytes(table)
+    table_by(image, command, DATAOFF)
 }
 
 // The exports of `LC_DYLD_INFO` or `LC_DYLD_INFO_ONLY`, if they have bytes.
@@ -155,8 +157,17 @@ fn info_exports(image: &Image) -> Option<Span>
     ensures some { IfSome result (λ table. 0 < table.len) }
 {
     let command = dyld_info(image)?;
-    let table = span_of(image, command, bounded_at(EXPORT_OFF));
-    some_bytes(table)
+    table_by(image, command, EXPORT_OFF)
+}
+
+// The table of the command that the fields at an offset of it bound, if it has bytes.
+fn table_by(image: &Image, command: u64, offset: u64) -> Option<Span>
+    requires near { offset < 2 ^ 32 }
+    requires start { command + offset + 4 ≤ length image.now }
+    requires size { command + (offset + 4) + 4 ≤ length image.now }
+    ensures { result ≡ some_bytes_of (bytes_of_table (table_at image.now command (bounded_at_of offset))) }
+{
+    some_bytes(span_of(image, command, bounded_at(offset)))
 }
 
 // The table, if it has bytes.
