@@ -3,8 +3,6 @@
 
 mod cdhashes;
 mod judge;
-#[cfg(test)]
-mod tests;
 mod words;
 
 use macho_program::run_process;

@@ -1,7 +1,7 @@
 //! Look-ups in export tries, whose bytes are written out. What no clause says: that the definitions are those of
 //! the format.
 
-use macho_exports::export_trie::{Export, Target, find_export};
+use crate::export_trie::{Export, Target, find_export};
 use macho_fields::{Bytes, Span};
 
 /// A trie of five nodes, with bytes between them that belong to none.
