@@ -1,7 +1,7 @@
 // Decides what macho-check decides of standard input, and prints the same text with the same status: the layout of a
 // file that breaks no rule of docs/RULES.md (status 0), or the first rule that is broken and its place (status 1).
 //
-//     bench/rules_tables.py >rules_tables.h && cc -std=c99 -O2 -I. -o floor bench/floor.c
+//     tests/reference/rules_tables.py >rules_tables.h && cc -std=c99 -O2 -I. -o floor bench/floor.c
 //     ./floor [--strict | --linked] <FILE
 //
 // With --strict and with --linked it decides what macho-verify decides by that profile.

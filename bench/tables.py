@@ -1,16 +1,20 @@
-"""What the programs of this folder that measure have in common: the library, times of the processor, and tables in
-Markdown."""
+"""What the programs of this folder that measure have in common: the library, times of the processor, tables in Markdown,
+and the folders of tests/, which are found once this is imported."""
 
 from __future__ import annotations
 
 import os
 import resource
+import sys
 from pathlib import Path
+
+TOP = Path(__file__).resolve().parent.parent
+sys.path.insert(1, str(TOP / "tests"))
 
 
 def library_folder(script: str) -> Path:
     """The folder of libkesvuot.a: KESVUOT_LIB_DIR if that is set, build/lib otherwise."""
-    build = Path(__file__).resolve().parent.parent / "build" / "lib"
+    build = TOP / "build" / "lib"
     folder = Path(os.environ.get("KESVUOT_LIB_DIR", build)).resolve()
     if not (folder / "libkesvuot.a").exists():
         raise SystemExit(f"{script}: {folder / 'libkesvuot.a'} is not there: call `make lib`")

@@ -1,6 +1,6 @@
 """What tests/examples asks the examples, and what they must answer. Nothing here comes from the library or its program:
 the lines of `symbolize` are by llvm-nm and llvm-objdump, and the files that `extract` makes by the readers of
-tests/oracle.py. The mutants are those that tests/oracle.py accepts.
+tests/reference/oracle.py. The mutants are those that it accepts.
 """
 
 from __future__ import annotations
@@ -10,8 +10,9 @@ import subprocess
 from pathlib import Path
 from typing import Iterator, NamedTuple
 
-import oracle
-import oracle_trials
+from fixtures.file_mutants import WAYS, mutant
+from reference import oracle, oracle_trials
+
 
 SEED = 1
 MOST_ADDRESSES = 500
@@ -128,7 +129,7 @@ def accepted_mutants(others: list[bytes]) -> Iterator[bytes]:
     weights = [2000 / len(files)] * len(files) + [1 if vector.wanted == "accepted" else 0 for vector in vectors]
     number = 0
     while True:
-        data, _ = oracle_trials.mutant(SEED, number, corpus, weights, oracle_trials.WAYS)
+        data, _ = mutant(SEED, number, corpus, weights, WAYS)
         number += 1
         if data not in files and oracle.first_broken(oracle.File(data)) is None:
             yield data

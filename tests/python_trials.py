@@ -3,7 +3,7 @@
 
     tests/python_trials.py ALL_KINDS MIXED [FOLDER..]
 
-The first two are files of tests/support/files.py, and the files of the folders are judged and read as well. For each
+The first two are files of tests/fixtures/files.py, and the files of the folders are judged and read as well. For each
 case it prints a line of three texts with tabs between them: the case, what was found, and what is wanted. What differs
 is shown on standard error.
 """
@@ -29,28 +29,28 @@ import weakref
 from pathlib import Path
 from types import SimpleNamespace
 
-TOP = Path(__file__).resolve().parent.parent
-sys.path[:0] = [str(TOP / "bindings" / "python"), str(TOP / "bench"), str(TOP / "tests")]
-import code_signature  # pylint: disable=wrong-import-position
-import explanations  # pylint: disable=wrong-import-position
-import export_trie  # pylint: disable=wrong-import-position
-import images  # pylint: disable=wrong-import-position
-import kesvuot  # pylint: disable=wrong-import-position
-import oracle  # pylint: disable=wrong-import-position
-import oracle_trials  # pylint: disable=wrong-import-position
-import plain_dyld  # pylint: disable=wrong-import-position
-import table_mutants  # pylint: disable=wrong-import-position
-from support.programs import MACHO_VERIFY, PROFILES  # pylint: disable=wrong-import-position
-from support.rules import read_rules  # pylint: disable=wrong-import-position
+from fixtures import images, table_mutants
+from fixtures.files import LINKED, SEALED
+from fixtures.notation import read_vectors
+from readers import code_signature, export_trie, plain_dyld
+from reference import explanations, oracle, oracle_trials
+from support.calling import TOP
+from support.programs import MACHO_VERIFY, PROFILES
+from support.rules import read_rules
+
+import kesvuot  # pylint: disable=wrong-import-order
+from kesvuot.constants import (  # pylint: disable=wrong-import-order
+    LC_CODE_SIGNATURE, LC_DATA_IN_CODE, LC_DYLD_CHAINED_FIXUPS, LC_DYLD_EXPORTS_TRIE, LC_DYSYMTAB, LC_FUNCTION_STARTS,
+    LC_LOAD_DYLINKER, LC_RPATH, LC_SOURCE_VERSION, LC_SYMTAB, LC_VERSION_MIN_IPHONEOS, LC_VERSION_MIN_MACOSX,
+    LC_VERSION_MIN_TVOS, LC_VERSION_MIN_WATCHOS)
 
 SHOWN = 20
-LC_LOAD_DYLINKER, LC_RPATH = 0xE, 0x8000_001C
-LC_SYMTAB, LC_DYSYMTAB = oracle.LC_SYMTAB, oracle.LC_DYSYMTAB
 # The commands whose data tests/*.reads and tests/real/*.reads show, in their order. The last one is of another kind.
-DATA_COMMANDS = (0x1D, 0x26, 0x29, 0x8000_0033, 0x8000_0034, LC_SYMTAB)
+DATA_COMMANDS = (LC_CODE_SIGNATURE, LC_FUNCTION_STARTS, LC_DATA_IN_CODE, LC_DYLD_EXPORTS_TRIE, LC_DYLD_CHAINED_FIXUPS,
+                 LC_SYMTAB)
 # Of <mach-o/loader.h>: the version_min_commands, by their platforms.
-LEAST_VERSIONS = {0x24: 1, 0x25: 2, 0x2F: 3, 0x30: 4}
-LC_CODE_SIGNATURE, LC_SOURCE_VERSION = 0x1D, 0x2A
+LEAST_VERSIONS = {LC_VERSION_MIN_MACOSX: 1, LC_VERSION_MIN_IPHONEOS: 2, LC_VERSION_MIN_TVOS: 3,
+                  LC_VERSION_MIN_WATCHOS: 4}
 # The tables in the order of kesvuot.h: a structure, the fields that bound the table, and the size of an item.
 BOUNDED_TABLES = (
     ("symtab_command", "symoff", "nsyms", 16), ("symtab_command", "stroff", "strsize", 1),
@@ -158,7 +158,7 @@ def wanted_explanation(data, rule, place):
 
 
 def explain_vectors(report):
-    """Each refusal is explained as tests/explanations.py works it out a second time, and each rule has one."""
+    """Each refusal is explained as explanations.py works it out a second time, and each rule has one."""
     found = [(vector.name, vector.data, explanation(vector.data, profile)) for profile in PROFILES
              for _, vectors in oracle_trials.read_all_vectors(profile) for vector in vectors]
     report.alike("explanations", "refusals", ((name, said[2], wanted_explanation(data, *said[:2]))
@@ -184,7 +184,7 @@ def compare_program(report, name, files, profile):
 def judge_texts(report):
     """The layouts that are written by hand."""
     report.alike("the reports, by hand", "layouts", (
-        (name, answer(data), (0, layout)) for name, data, layout, *_ in oracle_trials.read_all_reports()))
+        (name, answer(data), (0, layout)) for name, data, *_, layout in oracle_trials.read_all_reports()))
     report.alike("the real files, by hand", "layouts", (
         (name, answer(data), (0, layout.decode())) for name, data, layout in oracle_trials.read_real()))
 
@@ -331,7 +331,7 @@ def place_text(file, index, address):
     return f"file {file.place(found) - file.slices[index].place:#x}" if is_file else kind.value
 
 
-# The views of all accepted files, and what tests/oracle.py reads there
+# The views of all accepted files, and what tests/reference/oracle.py reads there
 
 
 def as_bytes(row):
@@ -645,8 +645,8 @@ def compare_views(report, name, files):
 
 def compare_signatures(report):
     """On vectors of the linked and the sealed profile which they refuse, too: they are accepted by the layout."""
-    vectors = [vector for path in (oracle_trials.LINKED, oracle_trials.SEALED)
-               for vector in oracle_trials.read_vectors(path) if verdict(vector.data) == "accepted"]
+    vectors = [vector for path in (LINKED, SEALED)
+               for vector in read_vectors(path) if verdict(vector.data) == "accepted"]
     report.alike("the signatures and threads of vectors of the linked and the sealed profile", "answers", (
         (f"{vector.name}: {view}", found, wanted) for vector in vectors
         for image, read in zip(kesvuot.verify(vector.data).images,
@@ -658,7 +658,7 @@ def compare_all_views(report, all_kinds, mixed):
     accepted = [(f"{name}: {vector.name}", vector.data) for name, vectors in oracle_trials.read_all_vectors("layout")
                 for vector in vectors if vector.wanted == "accepted"]
     accepted += [(f"{name}: {vector.name}", vector.data) for name, vectors in oracle_trials.read_all_vectors("strict")
-                 for vector in vectors if vector.is_strict and verdict(vector.data) == "accepted"]
+                 for vector in vectors if vector.profile == "strict" and verdict(vector.data) == "accepted"]
     compare_views(report, f"{len(accepted)} accepted vectors", accepted)
     compare_views(report, "two files of tests/support", [("all kinds", all_kinds), ("mixed", mixed)])
     compare_views(report, "the reports", ((name, data) for name, data, *_ in oracle_trials.read_all_reports()))
@@ -1005,7 +1005,7 @@ def judge_texts_of_rows(report, data):
 
 
 def made(name):
-    """The file of this name of bench/images.py."""
+    """The file of this name of tests/fixtures/images.py."""
     out = io.BytesIO()
     images.maker(name)(out)
     return out.getvalue()
@@ -1194,7 +1194,7 @@ def judge_much(report):
 def judge_streams(report):
     """On the vectors and on mutants of these and of the real files: a file that the linked profile accepts has the
     slots that the plain dyld writes. For another the slots are given up to an opcode that cannot be followed."""
-    vectors = [(vector.name, vector.data) for vector in images.read_vectors(oracle_trials.LINKED)]
+    vectors = [(vector.name, vector.data) for vector in read_vectors(LINKED)]
     twice = [data for name, data in vectors if name == "two rebase streams"]
     report.case("a second command with opcodes", [fault_of(kesvuot.verify(data).images[0].rebases) for data in twice],
                 [(0, "a second command names opcodes at 0x128")] * 3)

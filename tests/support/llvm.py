@@ -5,8 +5,8 @@ from __future__ import annotations
 import re
 from pathlib import Path
 
-import oracle
 
+from reference import oracle
 from .calling import has_tool
 
 

@@ -1,5 +1,5 @@
 //! What no clause says, and that the clauses say what was meant. The verdicts are vectors, in
-//! `macho_trials/data`.
+//! `tests/fixtures/vectors`.
 
 mod failing;
 mod faults;

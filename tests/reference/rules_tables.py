@@ -1,9 +1,8 @@
-#!/usr/bin/env python3
 """Prints the tables of docs/RULES.md for bench/floor.c and tests/fuzz.c: the rules of each profile, with those of
 docs/LINKED.md and docs/SEALED.md, the filetypes that are judged, the listed commands and their bounded tables.
-tests/oracle.py reads all but the rules there.
+oracle.py reads all but the rules there. In tests/:
 
-    bench/rules_tables.py >rules_tables.h
+    python3 -m reference.rules_tables >rules_tables.h
 
 Each table is a macro with a row `X(..)` for each of its lines. RULES has those of all profiles but the sealed one. A
 row of a command ends with the index of the first of its tables, and how many it has.
@@ -11,14 +10,10 @@ row of a command ends with the index of the first of its tables, and how many it
 
 from __future__ import annotations
 
-import sys
 from pathlib import Path
 from typing import Iterable, Iterator
 
-sys.dont_write_bytecode = True
-sys.path.insert(0, str(Path(__file__).resolve().parent.parent / "tests"))
-import oracle  # pylint: disable=wrong-import-position
-
+from . import oracle
 
 # The structure of each bounded table, and the table. Those of one structure stand side by side.
 TABLES = [(structure, *table) for structure, tables in oracle.BOUNDED_TABLES.items() for table in tables]
@@ -58,7 +53,7 @@ def command_rows() -> Iterator[str]:
 def header() -> str:
     constants = [f"#define {command} {cmd:#x}u\n" for command, (cmd, *_) in oracle.COMMANDS.items()]
     return "\n".join((
-        "// Made by bench/rules_tables.py of docs/RULES.md, docs/LINKED.md and docs/SEALED.md.\n",
+        "// Made by tests/reference/rules_tables.py of docs/RULES.md, docs/LINKED.md and docs/SEALED.md.\n",
         "".join(constants),
         *(macro(f"{profile}_RULES", rule_rows(names)) for profile, names in rules_of_profiles().items()),
         "#define RULES(X) LAYOUT_RULES(X) STRICT_RULES(X) LINKED_RULES(X)\n",

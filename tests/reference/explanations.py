@@ -1,20 +1,18 @@
 """What explains a refusal, worked out a second time: from the table of docs/LIBRARY.md, over the parser of
-tests/oracle.py and nothing of the library. `explain` returns all numbers of a `struct kesvuot_explanation`.
+oracle.py and nothing of the library. `explain` returns all numbers of a `struct kesvuot_explanation`.
 
 A function of a rule takes the image, or the file, and the place in it. It returns what is at the place, the two parts,
-and the two numbers that are compared. A part is its kind, its index, its start, its size, and where it is described, all
-of the slice; `in_file` adds where the slice begins.
+and the two numbers that are compared. A part is its kind, its index, its start, its size, and where it is described,
+all of the slice; `in_file` adds where the slice begins.
 """
 
 from __future__ import annotations
 
-import sys
-from pathlib import Path
 from types import SimpleNamespace
 from typing import Any, NamedTuple, Optional
 
-sys.path.insert(0, str(Path(__file__).resolve().parent))
-import oracle  # pylint: disable=wrong-import-position
+from . import oracle
+
 
 NO_INDEX, MOST = 2 ** 32 - 1, 2 ** 64 - 1
 KINDS = """none file magic fat_header fat_table fat_arch slice header headers command segment segment_memory section

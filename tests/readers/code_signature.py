@@ -1,10 +1,19 @@
 """Reads the code signature of an image by cs_blobs.h, of which docs/LINKED.md has the fields. All numbers are
-big-endian. What it finds is compared with what the library gives."""
+big-endian. It judges nothing. What it finds is compared with what the library gives, and with the lines of code
+directories that `macho-verify sealed` prints after the entry of each image. In tests/ these lines are printed by
+
+    python3 -m readers.code_signature FILE
+"""
 
 from __future__ import annotations
 
 import hashlib
+import sys
+from pathlib import Path
 from typing import Iterator, NamedTuple, Optional
+
+from kesvuot.constants import LC_CODE_SIGNATURE
+from reference import oracle
 
 SUPERBLOB_MAGIC, DIRECTORY_MAGIC = 0xFADE0CC0, 0xFADE0C02
 SUPERBLOB_SIZE, ENTRY_SIZE, BLOB_SIZE = 12, 8, 8
@@ -99,3 +108,25 @@ def digest_of(directory: Directory) -> Optional[bytes]:
     """The hash of a code directory by its own type, or None if that is not known."""
     _, function, size = HASHES.get(directory.hash_type, ("", None, 0))
     return function(directory.content).digest()[:size] if function else None
+
+
+def signature_of(image: oracle.Image) -> bytes:
+    """The bytes of the first signature that has some."""
+    commands = (it for it in image.listed if it.cmd == LC_CODE_SIGNATURE and it.datasize)
+    first = next(commands, None)
+    return image.data[first.dataoff:first.dataoff + first.datasize] if first else b""
+
+
+def cdhash_line(blob: bytes) -> str:
+    directory = read_directory(blob)
+    return f"  cdhash {HASHES[directory.hash_type][0]} {digest_of(directory)[:CDHASH_SIZE].hex()}\n"
+
+
+def cdhash_lines(data: bytes) -> list[str]:
+    """The lines of each image of a file, in the order of the index of its signature."""
+    return ["".join(cdhash_line(blob.content) for blob in read_blobs(signature_of(image)) if blob.slot in DIRECTORY_SLOTS)
+            for image in oracle.File(data).slices if image.is_64_bit]
+
+
+if __name__ == "__main__":
+    sys.stdout.writelines(cdhash_lines(Path(sys.argv[1]).read_bytes()))

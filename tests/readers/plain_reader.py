@@ -6,32 +6,39 @@ superblob, of a blob, or of the bytes before the signature. So does what it has 
 version, a hash or a page that is not known, blobs that share bytes, a signature without a directory, a page without a
 hash or a hash without a page, and bytes before the signature that no directory has hashes of. So do a library, a symbol
 or a section that is not there, an address of a symbol that no segment has, a relocation of a loader that is not of a
-pointer, a thread without a start or with two, a second thread or routine, one that begins where no code is, and a command
-for another kind of image. So it ends on all files, and on one that breaks the rules of docs/LINKED.md it says how.
+pointer, a thread without a start or with two, a second thread or routine, one that begins where no code is, and a
+command for another kind of image. So it ends on all files, and on one that breaks the rules of docs/LINKED.md it says
+how.
 
 It reads the superblob, its index and all blobs. In each code directory it reads the fields of its version, the
-identifier, the team, the hashes of the special slots, and each page with its hash. What a hash should be it does not ask.
+identifier, the team, the hashes of the special slots, and each page with its hash. What a hash should be it does not
+ask.
 
-`read_seal` reads signatures alone, and asks that: it compares each page and each blob of a special slot with its hash in
-each directory. A hash that is another, or that is not there, raises `Breach`, and so do a byte that is not in exactly one
-page, a byte of the signature or past it that is not zero and in no blob, two directories of one slot, and an image
-without a signature. So it says how a file breaks the rules of docs/SEALED.md.
+`read_seal` reads signatures alone, and asks that: it compares each page and each blob of a special slot with its hash
+in each directory. A hash that is another, or that is not there, raises `Breach`, and so do a byte that is not in
+exactly one page, a byte of the signature or past it that is not zero and in no blob, two directories of one slot, and
+an image without a signature. So it says how a file breaks the rules of docs/SEALED.md.
 
-From tests/oracle.py it takes the commands, segments and sections of an image, and nothing that decodes what it reads
-here.
+From tests/reference/oracle.py it takes the commands, segments and sections of an image, and nothing that decodes what
+it reads here.
 """
 
 import hashlib
 
-from plain_dyld import Breach
+from kesvuot.constants import (
+    CPU_TYPE_ARM64, CPU_TYPE_X86_64, CSSLOT_ALTERNATE_CODEDIRECTORIES, CSSLOT_CODEDIRECTORY, LC_ATOM_INFO,
+    LC_CODE_SIGNATURE, LC_DYSYMTAB, LC_ENCRYPTION_INFO, LC_FILESET_ENTRY, LC_FVMFILE, LC_IDENT, LC_IDFVMLIB,
+    LC_LINKER_OPTION, LC_LOADFVMLIB, LC_PREBIND_CKSUM, LC_PREBOUND_DYLIB, LC_PREPAGE, LC_ROUTINES, LC_ROUTINES_64,
+    LC_SEGMENT, LC_SOURCE_VERSION, LC_SUB_CLIENT, LC_SUB_FRAMEWORK, LC_SUB_LIBRARY, LC_SUB_UMBRELLA, LC_SYMSEG,
+    LC_SYMTAB, LC_TARGET_TRIPLE, LC_THREAD, LC_TWOLEVEL_HINTS, LC_UNIXTHREAD, LC_VERSION_MIN_IPHONEOS,
+    LC_VERSION_MIN_MACOSX, LC_VERSION_MIN_TVOS, LC_VERSION_MIN_WATCHOS, N_SECT, N_STAB, N_TYPE, VM_PROT_EXECUTE)
 
-LC_CODE_SIGNATURE = 0x1d
+from .plain_dyld import LOADS, Breach
 
 # kern/cs_blobs.h. The slots of directories; how many bytes the fields of a directory have from a version on; and the
 # sizes of hashes, by their types.
 CSMAGIC_EMBEDDED_SIGNATURE, CSMAGIC_CODEDIRECTORY = 0xfade0cc0, 0xfade0c02
-CSSLOT_CODEDIRECTORY = 0
-ALTERNATE_SLOTS = (0x1000, 0x1001, 0x1002, 0x1003, 0x1004)
+ALTERNATE_SLOTS = range(CSSLOT_ALTERNATE_CODEDIRECTORIES, CSSLOT_ALTERNATE_CODEDIRECTORIES + 5)
 SIZES_OF_VERSIONS = ((0x20600, 108), (0x20500, 96), (0x20400, 88), (0x20300, 64), (0x20200, 52), (0x20100, 48),
                      (0x20000, 44))
 HASH_SIZES = {1: 20, 2: 32, 3: 20, 4: 48}
@@ -42,28 +49,28 @@ LEAST_OTHER_SLOT = 0x1000
 MOST_SHIFTED = 31
 
 # mach-o/loader.h, nlist.h and reloc.h
-LC_SYMTAB, LC_DYSYMTAB, LOADS = 0x2, 0xb, (0xc, 0x80000018, 0x8000001f, 0x20, 0x80000023)
 MH_TWOLEVEL, OTHER_LIBRARIES = 0x80, (0, 0xfe, 0xff)
-N_STAB, N_TYPE, N_UNDF, N_INDR, N_PBUD, N_SECT, SYMBOL_SIZE = 0xe0, 0xe, 0x0, 0xa, 0xc, 0xe, 16
+N_UNDF, N_INDR, N_PBUD, SYMBOL_SIZE = 0x0, 0xa, 0xc, 16
 RELOCATION_SIZE, POINTER_LENGTH, ARM64_RELOC_ADDEND = 8, 3, 10
-VM_PROT_EXECUTE = 4
 
-# mach/i386/thread_status.h and mach/arm/thread_status.h. The states with registers, by the cputype and the flavor: where
-# the start of the thread is in their words. Those of x86_THREAD_STATE are another state.
-LC_THREAD, LC_UNIXTHREAD = 0x4, 0x5
-CPU_TYPE_X86_64, CPU_TYPE_ARM64 = 0x01000007, 0x0100000c
+# mach/i386/thread_status.h and mach/arm/thread_status.h. The states with registers, by the cputype and the flavor:
+# where the start of the thread is in their words. Those of x86_THREAD_STATE are another state.
 x86_THREAD_STATE64, x86_THREAD_STATE = 4, 7
 REGISTERS = {CPU_TYPE_X86_64: {x86_THREAD_STATE64: 128}, CPU_TYPE_ARM64: {6: 256}}
 
-# mach-o/loader.h. How many bytes the structures of other commands have, and which of them have a name, at an offset that
-# stands in the third word; which name bytes of the image, and how many bytes one of their entries has.
-LC_IDENT, LC_PREBOUND_DYLIB, LC_ROUTINES, LC_ROUTINES_64, LC_LINKER_OPTION = 0x8, 0x10, 0x11, 0x1a, 0x2d
+# mach-o/loader.h. How many bytes the structures of other commands have, and which of them have a name, at an offset
+# that stands in the third word; which name bytes of the image, and how many bytes one of their entries has.
 SIZES_OF_COMMANDS = {
-    0x3: 16, 0x6: 20, 0x7: 20, 0x8: 8, 0x9: 16, 0xa: 8, 0x10: 20, 0x11: 40, 0x12: 12, 0x13: 12, 0x14: 12, 0x15: 12,
-    0x16: 16, 0x17: 12, 0x1a: 72, 0x24: 16, 0x25: 16, 0x2a: 16, 0x2d: 12, 0x2f: 16, 0x30: 16, 0x36: 16, 0x39: 12}
-WITH_A_NAME = (0x6, 0x7, 0x9, 0x10, 0x12, 0x13, 0x14, 0x15, 0x39)
-WITH_BYTES = {0x3: 1, 0x16: 4, 0x36: 1}
-FOR_OTHER_IMAGES = (0x1, 0x21, 0x80000035)
+    LC_SYMSEG: 16, LC_LOADFVMLIB: 20, LC_IDFVMLIB: 20, LC_IDENT: 8, LC_FVMFILE: 16, LC_PREPAGE: 8,
+    LC_PREBOUND_DYLIB: 20, LC_ROUTINES: 40, LC_SUB_FRAMEWORK: 12, LC_SUB_UMBRELLA: 12, LC_SUB_CLIENT: 12,
+    LC_SUB_LIBRARY: 12, LC_TWOLEVEL_HINTS: 16, LC_PREBIND_CKSUM: 12, LC_ROUTINES_64: 72, LC_VERSION_MIN_MACOSX: 16,
+    LC_VERSION_MIN_IPHONEOS: 16, LC_SOURCE_VERSION: 16, LC_LINKER_OPTION: 12, LC_VERSION_MIN_TVOS: 16,
+    LC_VERSION_MIN_WATCHOS: 16, LC_ATOM_INFO: 16, LC_TARGET_TRIPLE: 12}
+WITH_A_NAME = (
+    LC_LOADFVMLIB, LC_IDFVMLIB, LC_FVMFILE, LC_PREBOUND_DYLIB, LC_SUB_FRAMEWORK, LC_SUB_UMBRELLA, LC_SUB_CLIENT,
+    LC_SUB_LIBRARY, LC_TARGET_TRIPLE)
+WITH_BYTES = {LC_SYMSEG: 1, LC_TWOLEVEL_HINTS: 4, LC_ATOM_INFO: 1}
+FOR_OTHER_IMAGES = (LC_SEGMENT, LC_ENCRYPTION_INFO, LC_FILESET_ENTRY)
 
 class Part:
     """Some bytes of an image, of which no others are read."""

@@ -1,17 +1,16 @@
 #!/usr/bin/env python3
-"""Loads images by the plain dyld of tests/plain_dyld.py, and reads their code signatures by tests/plain_reader.py, both
-under watch. tests/dyld calls it, and says how.
+"""Loads images by the plain dyld of tests/readers/plain_dyld.py, and reads their code signatures by plain_reader.py
+there, both under watch. tests/dyld calls it, and says how.
 
-It judges the vectors of tests/linked.txt by hand and by tests/oracle.py --linked, and then files and mutants of their
+It judges the vectors of linked.txt by hand and by oracle.py --linked, and then files and mutants of their
 tables by the oracle alone. Each image that the oracle accepts is loaded, and the promise of docs/LINKED.md has to hold.
-With --sealed the vectors are those of tests/sealed.txt, the mutants those of tests/seal_mutants.py, and the promise is
-that of docs/SEALED.md: each signature is read, and each hash is compared. Nothing else is refused there: on each file that
-breaks a rule of docs/SEALED.md alone, the reader has to find what is wrong. Mutant N of a seed is always the same. For each case it prints a line of three texts with tabs between them: the case,
-what was found, and what is wanted.
+With --sealed the vectors are those of sealed.txt, the mutants those of seal_mutants.py, and the promise is that of
+docs/SEALED.md: each signature is read, and each hash is compared. Nothing else is refused there: on each file that
+breaks a rule of docs/SEALED.md alone, the reader has to find what is wrong. Mutant N of a seed is always the same. For
+each case it prints a line of three texts with tabs between them: the case, what was found, and what is wanted.
 """
 
 import argparse
-import importlib.util
 import multiprocessing
 import os
 import random
@@ -22,26 +21,22 @@ import time
 from collections import Counter, namedtuple
 from pathlib import Path
 
-sys.dont_write_bytecode = True
-import plain_dyld
-import plain_reader
-import seal_mutants
-import table_mutants
-from support.files import signed_image
+from fixtures import seal_mutants, table_mutants
+from fixtures.files import LINKED, SEALED, signed_image
+from fixtures.notation import read_count, read_vectors
+from readers import plain_dyld, plain_reader
+from support.programs import REAL
 
-TOP = Path(__file__).resolve().parent.parent
-sys.path.insert(0, os.path.join(TOP, "bench"))
-from images import read_count, read_vectors  # pylint: disable=wrong-import-position
+from . import load as load_module
 
-REAL = TOP / "tests" / "real"
 BATCH = 200
 SHOWN = 20
 # A file is mutated up to this length: of a longer one most of the time is the layout's.
 MOST_BYTES = 200_000
 
 # What is judged: the name, the vectors, what is done with an image, the name of the rules in the oracle, those of them
-# without which no vector breaks the promise, the change of a mutant, what of a file can be changed, and the case of files
-# that are wrongly judged. Where `is_exact` is true all files that keep the promise are accepted.
+# without which no vector breaks the promise, the change of a mutant, what of a file can be changed, and the case of
+# files that are wrongly judged. Where `is_exact` is true all files that keep the promise are accepted.
 Profile = namedtuple("Profile", "name vectors load rules unneeded change parts wrong is_exact")
 
 # The oracle, which is loaded first.
@@ -52,19 +47,13 @@ profile = None
 # For a file: its verdict, how many writes there were to each stream, and the breach, or None.
 Loaded = namedtuple("Loaded", "verdict writes breach")
 
-def load_module(path):
-    spec = importlib.util.spec_from_file_location("oracle", path)
-    module = importlib.util.module_from_spec(spec)
-    spec.loader.exec_module(module)
-    return module
-
 def verdict_on(data):
     status, out, _ = oracle.check(data, profile.name)
     return "accepted" if status == 0 else out.rstrip("\n")
 
 def load(data):
-    """The verdict on a file, and what happens where it is loaded. That nothing does is the breach of a file that should be
-    accepted."""
+    """The verdict on a file, and what happens where it is loaded. That nothing does is the breach of a file that should
+    be accepted."""
     verdict = verdict_on(data)
     if verdict == "accepted":
         return load_judged(data, verdict)
@@ -117,10 +106,10 @@ class Report:
             print("%s: %s, but %s" % (path, loaded.verdict, loaded.breach), file=sys.stderr)
 
 PROFILES = {
-    "linked": Profile("linked", TOP / "tests" / "linked.txt", load_linked, "LINKED_RULES_OF_AN_IMAGE",
+    "linked": Profile("linked", LINKED, load_linked, "LINKED_RULES_OF_AN_IMAGE",
                       ["function-variants"], table_mutants.change, table_mutants.tables,
                       "accepted %s that break the promise", False),
-    "sealed": Profile("sealed", TOP / "tests" / "sealed.txt", read_sealed, "SEALED_RULES_OF_AN_IMAGE",
+    "sealed": Profile("sealed", SEALED, read_sealed, "SEALED_RULES_OF_AN_IMAGE",
                       [], seal_mutants.change, seal_mutants.signatures,
                       "%s on which the reader says something else", True),
 }
@@ -269,7 +258,7 @@ def main():
     if words.oracles:
         find_breaches(words)
         return
-    oracle = load_module(os.path.join(TOP, "tests", "oracle.py"))
+    oracle = load_module()
     report = Report(words.keep)
     files = read_files(words.folders)
     set_work(words, files)

@@ -1,14 +1,14 @@
 #!/usr/bin/env python3
-"""A second verifier of the layout of Mach-O files. It was written from docs/RULES.md, and from docs/COMMAND.md for what is
-printed. It reads the filetypes and the listed commands in the tables of docs/RULES.md. Nothing was taken from the
-sources of the first one. tests/oracle compares the two. It also judges the rules of docs/LINKED.md and docs/SEALED.md, as
-macho-verify does; tests/dyld loads what it accepts.
+"""A second verifier of the layout of Mach-O files. It was written from docs/RULES.md, and from docs/COMMAND.md for what
+is printed. It reads the filetypes and the listed commands in the tables of docs/RULES.md. Nothing was taken from the
+sources of the first one. tests/oracle compares the two. It also judges the rules of docs/LINKED.md and docs/SEALED.md,
+as macho-verify does; tests/dyld loads what it accepts.
 
-    tests/oracle.py FILE                        prints what `macho-check check FILE` prints, and ends with its status
-    tests/oracle.py where FILE SLICE ADDRESS    the same for `macho-check where FILE SLICE ADDRESS`
-    tests/oracle.py --strict FILE               the same for `macho-verify strict FILE`
-    tests/oracle.py --linked FILE               the same for `macho-verify linked FILE`
-    tests/oracle.py --sealed FILE               the same for `macho-verify sealed FILE`
+    oracle.py FILE                        prints what `macho-check check FILE` prints, and ends with its status
+    oracle.py where FILE SLICE ADDRESS    the same for `macho-check where FILE SLICE ADDRESS`
+    oracle.py --strict FILE               the same for `macho-verify strict FILE`
+    oracle.py --linked FILE               the same for `macho-verify linked FILE`
+    oracle.py --sealed FILE               the same for `macho-verify sealed FILE`
 
 It is written to be read beside docs/RULES.md, and has the same order. A rule is a function with its name. It yields
 each place at which the rule is broken. `first_broken` takes the rules one after the other, and of the first one that
@@ -156,8 +156,8 @@ EXPORT_SYMBOL_FLAGS_KIND_MASK, EXPORT_SYMBOL_FLAGS_KIND_ABSOLUTE, KIND_UNKNOWN =
 EXPORT_SYMBOL_FLAGS_REEXPORT, EXPORT_SYMBOL_FLAGS_STUB_AND_RESOLVER = 0x8, 0x10
 LEAST_SPECIAL_ORDINAL = 2 ** 64 + BIND_SPECIAL_DYLIB_WEAK_LOOKUP
 
-# The fields of bits of a relocation_info, each from its first bit up to and including its last. A pointer has 2^3 bytes.
-# A relocation of arm64 of this type has an addend in place of a number of a symbol or of a section.
+# The fields of bits of a relocation_info, each from its first bit up to and including its last. A pointer has 2^3
+# bytes. A relocation of arm64 of this type has an addend in place of a number of a symbol or of a section.
 R_SYMBOLNUM, R_LENGTH, R_EXTERN, R_TYPE = (0, 23), (25, 26), (27, 27), (28, 31)
 LENGTH_OF_A_POINTER = 3
 ARM64_RELOC_ADDEND = 10
@@ -216,8 +216,8 @@ DICE_KINDS = range(1, 6)
 
 # Code signatures: the magic numbers; the slots of directories, of which there can be five alternate ones, and the
 # special slots; the least version, and how many bytes the fields have of a version and of those up to the next; the
-# versions from which some of the fields are there; the bytes of a hash, by its type, and its name and how it is made; the
-# greatest logarithm of a page's bytes; and how many bytes of the hash of a directory are printed.
+# versions from which some of the fields are there; the bytes of a hash, by its type, and its name and how it is made;
+# the greatest logarithm of a page's bytes; and how many bytes of the hash of a directory are printed.
 CSMAGIC_EMBEDDED_SIGNATURE, CSMAGIC_CODEDIRECTORY = 0xfade0cc0, 0xfade0c02
 DIRECTORY_SLOTS = (0, *range(0x1000, 0x1005))
 SPECIAL_SLOTS = range(1, 0x1000)
@@ -239,7 +239,7 @@ NOP = b"\x90"
 
 def rows_of(row, page="RULES.md"):
     """The cells of the rows of a page of docs/ that have this form."""
-    top = os.path.dirname(os.path.dirname(os.path.realpath(__file__)))
+    top = os.path.join(os.path.dirname(os.path.realpath(__file__)), os.pardir, os.pardir)
     with open(os.path.join(top, "docs", page), encoding="utf-8") as text:
         return re.findall(row, text.read(), re.MULTILINE)
 

@@ -14,11 +14,17 @@ bytes of one executable segment. So it ends on all files, and on one that breaks
 It reads all nodes of an export trie, as a tool that lists the exports does, and looks some of the names up. There a
 breach is also a terminal part that is not read to its end or says what is not known, and an address in no segment.
 
-From tests/oracle.py it takes the commands of an image, and nothing that decodes a stream.
+From tests/reference/oracle.py it takes the commands of an image, and nothing that decodes a stream.
 """
 
 import bisect
 from collections import namedtuple
+
+from kesvuot.constants import (
+    DICE_KIND_ABS_JUMP_TABLE32, DICE_KIND_DATA, EXPORT_SYMBOL_FLAGS_KIND_ABSOLUTE, EXPORT_SYMBOL_FLAGS_REEXPORT,
+    EXPORT_SYMBOL_FLAGS_STUB_AND_RESOLVER, LC_DATA_IN_CODE, LC_DYLD_CHAINED_FIXUPS, LC_DYLD_EXPORTS_TRIE, LC_DYLD_INFO,
+    LC_DYLD_INFO_ONLY, LC_ENCRYPTION_INFO_64, LC_FUNCTION_STARTS, LC_LAZY_LOAD_DYLIB, LC_LOAD_DYLIB,
+    LC_LOAD_UPWARD_DYLIB, LC_LOAD_WEAK_DYLIB, LC_REEXPORT_DYLIB, VM_PROT_EXECUTE, VM_PROT_READ, VM_PROT_WRITE)
 
 # mach-o/loader.h
 REBASE_OPCODE_DONE = 0x00
@@ -43,17 +49,9 @@ BIND_OPCODE_DO_BIND = 0x90
 BIND_OPCODE_DO_BIND_ADD_ADDR_ULEB = 0xa0
 BIND_OPCODE_DO_BIND_ADD_ADDR_IMM_SCALED = 0xb0
 BIND_OPCODE_DO_BIND_ULEB_TIMES_SKIPPING_ULEB = 0xc0
-LC_DYLD_INFO, LC_DYLD_INFO_ONLY = 0x22, 0x80000022
-LC_FUNCTION_STARTS, LC_DATA_IN_CODE, LC_DYLD_EXPORTS_TRIE = 0x26, 0x29, 0x80000033
-LC_DYLD_CHAINED_FIXUPS = 0x80000034
-DICE_KIND_DATA, DICE_KIND_ABS_JUMP_TABLE32, ENTRY_SIZE = 1, 5, 8
-EXPORT_SYMBOL_FLAGS_KIND_ABSOLUTE = 0x02
-EXPORT_SYMBOL_FLAGS_REEXPORT = 0x08
-EXPORT_SYMBOL_FLAGS_STUB_AND_RESOLVER = 0x10
+ENTRY_SIZE = 8
 KNOWN_KINDS = (0, 1, 2)
-LOADS = (0xc, 0x80000018, 0x8000001f, 0x20, 0x80000023)
-LC_ENCRYPTION_INFO_64 = 0x2c
-VM_PROT_READ, VM_PROT_WRITE, VM_PROT_EXECUTE = 1, 2, 4
+LOADS = (LC_LOAD_DYLIB, LC_LOAD_WEAK_DYLIB, LC_REEXPORT_DYLIB, LC_LAZY_LOAD_DYLIB, LC_LOAD_UPWARD_DYLIB)
 SG_PROTECTED_VERSION_1 = 8
 
 # mach-o/fixup-chains.h. For an import, by its format: its size, how many bits its ordinal has, and from which bit up to

@@ -19,10 +19,10 @@ from __future__ import annotations
 from os.path import commonprefix
 from typing import Iterable, Iterator, List, NamedTuple, Optional, Tuple
 
-from oracle import Image, Malformed, operand
-from table_mutants import LC_DYLD_INFO, LC_DYLD_INFO_ONLY, WORD, uleb
+from fixtures.table_mutants import WORD, uleb
+from kesvuot.constants import LC_DYLD_EXPORTS_TRIE, LC_DYLD_INFO, LC_DYLD_INFO_ONLY
+from reference.oracle import Image, Malformed, operand
 
-LC_DYLD_EXPORTS_TRIE = 0x80000033
 KIND_MASK, REGULAR, THREAD_LOCAL, ABSOLUTE = 3, 0, 1, 2
 WEAK_DEFINITION, REEXPORT, STUB_AND_RESOLVER, STATIC_RESOLVER = 4, 8, 0x10, 0x20
 

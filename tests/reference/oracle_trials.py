@@ -1,42 +1,32 @@
 #!/usr/bin/env python3
-"""Compares the answers of tests/oracle.py with those of the built program. tests/oracle calls it, and says how.
+"""Compares the answers of oracle.py with those of the built program. tests/oracle calls it, and says how.
 
-It judges the vectors of crates/macho_trials/data, the reports of tests/reports.txt, the files of tests/real, those of
-folders that are named, and mutants of the vectors and of all files. Mutant N of a seed is always the same. For each
+It judges the vectors and reports of tests/fixtures/vectors, the files of tests/real, those of folders that are named,
+and mutants of the vectors and of all files. Mutant N of a seed is always the same. For each
 case it prints a line of three texts with tabs between them: the case, what was found, and what is wanted. For each
 disagreement it prints both answers on standard error, and keeps the file.
 
 The program is macho-check. With --strict, --linked or --sealed it is macho-verify, which judges by that profile: by the
-linked one the vectors of tests/linked.txt and mutants of tables as well, and by the sealed one the vectors of
-tests/sealed.txt and mutants of sealed files as well. macho-verify has no `where`: nothing is asked of addresses then.
+linked one the vectors of linked.txt and mutants of tables as well, and by the sealed one the vectors of sealed.txt and
+mutants of sealed files as well. macho-verify has no `where`: nothing is asked of addresses then.
 """
 
 import argparse
-import functools
-import importlib.util
 import multiprocessing
 import os
-import random
 import re
 import subprocess
 import sys
 import tempfile
 from collections import Counter, namedtuple
-from pathlib import Path
 
-sys.dont_write_bytecode = True
-import seal_mutants
-import table_mutants
-from support.files import signed_image
-from support.programs import MACHO_CHECK, MACHO_VERIFY, PROFILES
+from fixtures.file_mutants import WAYS_OF, images, mutant, says_more, some_address, weight, written
+from fixtures.files import REPORTS, SEALED, profile_of, signed_image, vector_files
+from fixtures.notation import read_count, read_vectors
+from support.programs import MACHO_CHECK, MACHO_VERIFY, PROFILES, REAL
 
-TOP = os.path.dirname(os.path.dirname(os.path.abspath(__file__)))
-sys.path.insert(0, os.path.join(TOP, "bench"))
-from images import read_count, read_reports, read_vectors  # pylint: disable=wrong-import-position
+from . import ORACLE, load
 
-DATA = os.path.join(TOP, "crates", "macho_trials", "data")
-LINKED, SEALED = Path(TOP, "tests", "linked.txt"), Path(TOP, "tests", "sealed.txt")
-REAL = os.path.join(TOP, "tests", "real")
 BATCH = 50
 SHOWN = 20
 
@@ -47,292 +37,7 @@ Difference = namedtuple("Difference", "question oracle program")
 # The differences, how often the oracle gave each kind of answer, and the answers of both to the questions.
 Compared = namedtuple("Compared", "differences kinds oracle program")
 
-# Mutants. Nothing of the oracle is used here, so that a mistake in it does not hide itself.
-
-NUMBERS = [0, 1, 2, 3, 4, 5, 6, 7, 8, 11, 12, 14, 15, 16, 18, 20, 22, 23, 24, 30, 31, 32, 34, 40, 48, 56, 63, 64, 65,
-           72, 80, 92, 126, 127, 128, 152, 0xe0, 0xff, 0x100, 0x101, 0xfff, 0x1000, 0x4000, 0xffff, 0x10000,
-           0x20000000, 0x40000000, 0x7fffffff, 0x80000000, 0xc0000000, 0xfffffff8, 0xffffffff, 0x100000000,
-           0x7fffffffffffffff, 0x8000000000000000, 0xfffffffffffff000, 0xfffffffffffffff8, 0xffffffffffffffff]
-COMMANDS = [0x1, 0x2, 0x5, 0xb, 0xc, 0xd, 0xe, 0xf, 0x16, 0x18, 0x19, 0x1b, 0x1c, 0x1d, 0x1e, 0x1f, 0x20, 0x22, 0x24,
-            0x26, 0x27, 0x29, 0x2b, 0x2c, 0x2e, 0x31, 0x32, 0x33, 0x34, 0x36, 0x37, 0x38, 0x80000018, 0x8000001c,
-            0x8000001f, 0x80000022, 0x80000023, 0x80000028, 0x80000033, 0x80000034, 0x80000035, 0x80000019]
-MAGICS = [bytes.fromhex(digits) for digits in ("cafebabe", "cafebabf", "cffaedfe", "feedfacf", "cefaedfe", "feedface")]
-
-def number_at(data, place, width, order="little"):
-    return int.from_bytes(data[place:place + width], order)
-
-def images(data):
-    """Where images seem to begin: wherever their magic number stands, the first eight of them."""
-    starts = []
-    at = data.find(MAGICS[2])
-    while at >= 0 and len(starts) < 8:
-        starts.append(at)
-        at = data.find(MAGICS[2], at + 1)
-    return starts
-
-def commands(data, start):
-    """The place and the length of each command of an image, up to the first impossible one."""
-    found = []
-    place = start + 32
-    for _ in range(min(number_at(data, start + 16, 4), 2000)):
-        size = number_at(data, place + 4, 4)
-        if size < 8 or place + size > len(data):
-            break
-        found.append((place, size))
-        place += size
-    return found
-
-def table_end(data):
-    if data[:4] not in MAGICS[:2]:
-        return 0
-    return min(8 + number_at(data, 4, 4, "big") * (32 if data[:4] == MAGICS[1] else 20), len(data))
-
-def some_image(rng, data):
-    """Where an image and its commands begin and end."""
-    starts = images(data)
-    if not starts:
-        return 0, len(data)
-    start = rng.choice(starts)
-    return start, max(min(start + 32 + number_at(data, start + 20, 4), len(data)), start + 4)
-
-def some_place(rng, data, width):
-    """The place of a field: in the table, in a command, past the commands where a byte is not zero, in the header, or
-    anywhere. In a command it is rarely in the first 8 bytes: most files that differ in these are refused at once."""
-    start, end = some_image(rng, data)
-    found = commands(data, start)
-    way = rng.random()
-    if table_end(data) and way < 0.3:
-        start, place = 0, rng.randrange(table_end(data))
-    elif found and way < 0.75:
-        place, size = rng.choice(found)
-        place += rng.randrange(8, size) if size > 8 and rng.random() < 0.9 else rng.randrange(8)
-    elif way < 0.9:
-        byte = re.compile(rb"[^\0]").search(data, rng.randrange(end if end < len(data) else 0, len(data)))
-        place = byte.start() if byte else rng.randrange(len(data))
-    elif way < 0.95:
-        place = min(start + rng.randrange(32), len(data) - 1)
-    else:
-        place = rng.randrange(len(data))
-    if rng.random() < 0.9:
-        place -= (place - start) % min(width, 4)
-    return place
-
-def some_number(rng, data, place, width, order):
-    """A number that a rule may turn on: a special one, one beside what stands there, or one beside a sum or a
-    difference of other numbers of the file and the length of the image."""
-    start, end = some_image(rng, data)
-    near = rng.choice((-1, 0, 0, 0, 1, rng.choice((-16, -8, -4, -2, 2, 4, 8, 16))))
-    way = rng.randrange(8)
-    if way == 0:
-        return rng.choice(NUMBERS)
-    if way == 1:
-        return rng.choice(COMMANDS if rng.random() < 0.7 else NUMBERS)
-    if way == 2:
-        return number_at(data, place, width, order) + (near or rng.choice((-1, 1, 1 << 32)))
-    if way == 3:
-        return number_at(data, place, width, order) ^ (1 << rng.randrange(8 * width))
-    if way == 4:
-        return (1 << rng.randrange(65)) + near
-
-    def other():
-        at = start + 4 * rng.randrange(max((end - start) // 4, 1))
-        return number_at(data, at, rng.choice((4, 8)), order)
-
-    length = len(data) - (start if rng.random() < 0.7 else 0)
-    return near + rng.choice((
-        length - other(), (length - other()) // rng.choice((4, 8, 16, 56)), length, other(), other() + other(),
-        other() - other(), end - start))
-
-def set_field(rng, data, _):
-    """A field of 1, 2, 4 or 8 bytes is set to a number."""
-    if not data:
-        return b"\0"
-    width = rng.choice((1, 2, 4, 4, 4, 4, 8, 8))
-    place = some_place(rng, data, width)
-    order = "big" if place < table_end(data) else "little"
-    value = some_number(rng, data, place, width, order) % 2 ** (8 * width)
-    return (data[:place] + value.to_bytes(width, order) + data[place + width:])[:max(len(data), place + 1)]
-
-def set_range(rng, data, _):
-    """Two fields beside each other, a start and a count, are set to a range that ends where the image does, or near."""
-    width = rng.choice((4, 4, 8))
-    place = some_place(rng, data, width) if data else 0
-    length = len(data) - (some_image(rng, data)[0] if rng.random() < 0.7 else 0)
-    count = rng.choice((0, 1, 1, 2, 4, 8, rng.randrange(length + 1)))
-    start = length - count * rng.choice((1, 1, 1, 4, 8, 16)) + rng.choice((-1, 0, 0, 1, 1, 4, 8))
-    both = (start % 2 ** (8 * width)).to_bytes(width, "little") + count.to_bytes(width, "little")
-    return data[:place] + both + data[place + 2 * width:]
-
-def cut(rng, data, _):
-    """The file is cut."""
-    way = rng.random()
-    if way < 0.5:
-        return data[:max(len(data) - rng.choice((1, 1, 2, 4, 7, 8, 16)), 0)]
-    if way < 0.75:
-        return data[:some_image(rng, data)[1] + rng.choice((-8, -1, 0, 1))]
-    return data[:rng.randrange(len(data) + 1)]
-
-def splice(rng, data, corpus):
-    """Bytes of another file stand in the place of some, or between them."""
-    other = rng.choice(corpus)
-    size = rng.choice((1, 4, 8, 16, 20, 24, 32, 72, 80, 152, rng.randrange(1, 400)))
-    source = rng.randrange(len(other) + 1)
-    if rng.random() < 0.6 and images(other):
-        source = rng.choice([place for place, _ in commands(other, images(other)[0])] or [0])
-    piece = other[source:source + size]
-    place = some_place(rng, data, 4) if data else 0
-    return data[:place] + piece + data[place + (0 if rng.random() < 0.3 else len(piece)):]
-
-def exchange(rng, data, _):
-    """Two commands of an image are exchanged."""
-    found = commands(data, some_image(rng, data)[0])
-    if len(found) < 2:
-        return data
-    (one, one_size), (two, two_size) = sorted(rng.sample(found, 2))
-    middle = data[one + one_size:two]
-    return data[:one] + data[two:two + two_size] + middle + data[one:one + one_size] + data[two + two_size:]
-
-def add_command(rng, data, corpus):
-    """A command of this file or of another is set between two commands or after them, and is counted."""
-    other = data if rng.random() < 0.3 else rng.choice(corpus)
-    found = commands(other, some_image(rng, other)[0])
-    start = some_image(rng, data)[0]
-    if not found or len(data) < start + 32:
-        return data
-    source, size = rng.choice(found)
-    piece = other[source:source + size]
-    places = [place for place, _ in commands(data, start)] or [start + 32]
-    end = min(start + 32 + number_at(data, start + 20, 4), len(data))
-    place = end if rng.random() < 0.5 else rng.choice(places)
-    counts = (number_at(data, start + 16, 4) + 1, number_at(data, start + 20, 4) + size)
-    header = data[start:start + 16] + b"".join((n % 2 ** 32).to_bytes(4, "little") for n in counts)
-    # Zeros after the commands make room, where there are as many.
-    has_room = place == end and not any(data[end:end + size])
-    after = data[place + size if has_room else place:]
-    return data[:start] + header + data[start + 24:place] + piece + after
-
-def wrap(rng, data, corpus):
-    """The file becomes a slice of a universal file, alone or beside another one."""
-    slices = [data] + [rng.choice(corpus) for _ in range(rng.choice((0, 1, 1, 2)))]
-    rng.shuffle(slices)
-    is_wide = rng.random() < 0.5
-    align = rng.choice((0, 2, 5, 6))
-    end = 8 + len(slices) * (32 if is_wide else 20)
-    order = list(range(len(slices)))
-    if rng.random() < 0.3:
-        rng.shuffle(order)
-    entries = {}
-    body = b""
-    for index in order:
-        body += bytes(-(end + len(body)) % 2 ** align)
-        architecture = [slices[index][4:8][::-1].rjust(4, b"\0"), slices[index][8:12][::-1].rjust(4, b"\0")]
-        if rng.random() < 0.5:
-            # An architecture that no other has; the header's is the same then.
-            architecture[1] = bytes((rng.choice((0, 0x80)), 0, 0, index + 3))
-            slices[index] = slices[index][:8] + bytes((index + 3, 0, 0, 0)) + slices[index][12:]
-        width = 8 if is_wide else 4
-        numbers = [(end + len(body)).to_bytes(width, "big"), len(slices[index]).to_bytes(width, "big")]
-        entries[index] = b"".join(architecture + numbers) + align.to_bytes(4, "big") + bytes(4 if is_wide else 0)
-        body += slices[index]
-    head = MAGICS[1 if is_wide else 0] + len(slices).to_bytes(4, "big")
-    return head + b"".join(entries[index] for index in range(len(slices))) + body
-
-def set_magic(rng, data, _):
-    """The first bytes of the file or of an image are those of some kind."""
-    start = rng.choice([0] + images(data))
-    return data[:start] + rng.choice(MAGICS) + data[start + 4:]
-
-def append(rng, data, _):
-    """Zeros stand after the file, and sometimes a byte after them."""
-    return data + bytes(rng.choice((0, 1, 7, 8))) + rng.choice((b"", b"\1", b"\xff"))
-
-def set_byte(rng, data, _):
-    """A byte that was zero is not."""
-    place = data.find(0, rng.randrange(len(data) + 1))
-    return data if place < 0 else data[:place] + bytes((rng.choice((1, 0x80, 0xff)),)) + data[place + 1:]
-
-def repeat_range(rng, data, _):
-    """The start and the count of one command are set to those of another one, or begin a little beside."""
-    found = commands(data, some_image(rng, data)[0])
-    if not found:
-        return data
-    width = rng.choice((4, 4, 8))
-    places = [place + offset for place, size in found for offset in range(8, size - 2 * width + 1, width)]
-    if not places:
-        return data
-    source, place = rng.choice(places), rng.choice(places)
-    start = number_at(data, source, width) + rng.choice((-8, -1, 0, 0, 1, 8))
-    count = data[source + width:source + 2 * width]
-    return data[:place] + (start % 2 ** (8 * width)).to_bytes(width, "little") + count + data[place + 2 * width:]
-
-def change_table(rng, data, _):
-    """A table of linked data is changed, or what it depends on."""
-    return table_mutants.change(rng, data)
-
-def change_seal(rng, data, _):
-    """A signature is changed, or what it has hashes of, and mostly the hashes are made again."""
-    return seal_mutants.change(rng, data)
-
-def seal(_rng, data, _):
-    """The hashes are made again."""
-    return seal_mutants.seal(data)
-
-# With how often each is taken; and the ways that are taken as well where a further profile is judged.
-WAYS = {set_field: 65, set_range: 8, cut: 5, splice: 8, exchange: 6, add_command: 8, wrap: 6, set_magic: 1}
-STRICT_WAYS = {append: 10, set_byte: 20, repeat_range: 30}
-LINKED_WAYS = {change_table: 300}
-SEALED_WAYS = {change_table: 50, seal: 200, change_seal: 900}
-WAYS_OF = {"layout": WAYS, "strict": {**WAYS, **STRICT_WAYS}, "linked": {**WAYS, **STRICT_WAYS, **LINKED_WAYS},
-           "sealed": {**WAYS, **STRICT_WAYS, **SEALED_WAYS}}
-# For the sealed profile a file with a signature is changed this many times as often as another.
-OFTEN = 20
-
-def weight(data, is_accepted, profile):
-    """How often a file is changed. An accepted one says more then, or one that the strict profile alone refuses, and so
-    does one with many commands. A long file with hundreds of them takes long, and says no more."""
-    if len(data) > 50000:
-        return 1
-    often = OFTEN if profile == "sealed" and seal_mutants.signatures(data) else 1
-    return often * (8 if is_accepted else 1) * (1 + sum(min(len(commands(data, start)), 20) for start in images(data)))
-
-def says_more(vector, profile):
-    """Whether a vector is accepted, or one that only the profile or one before it refuses."""
-    if profile == "sealed":
-        return vector.wanted in ("accepted", "") or vector.is_sealed
-    return vector.wanted == "accepted" or vector.is_strict or vector.is_linked
-
-def mutant(seed, number, corpus, weights, ways):
-    """Mutant NUMBER of a seed: a file of the corpus, changed up to five times. And the random numbers that follow."""
-    rng = random.Random("%d %d" % (seed, number))
-    data = rng.choices(corpus, weights)[0]
-    for _ in range(rng.choice((1, 1, 1, 2, 2, 3, 5))):
-        way = rng.choices(list(ways), list(ways.values()))[0]
-        data = way(rng, data, corpus)
-    return data, rng
-
-def some_address(rng, data):
-    """An address near where a segment, or its part in the file, begins or ends."""
-    places = [place for start in images(data) for place, size in commands(data, start)
-              if number_at(data, place, 4) == 0x19 and size >= 72]
-    if not places or rng.random() < 0.1:
-        return rng.choice((0, 2 ** 64 - 1, rng.randrange(2 ** 64)))
-    place = rng.choice(places)
-    vmaddr, vmsize, filesize = (number_at(data, place + offset, 8) for offset in (24, 32, 48))
-    inside = rng.choice((0, vmsize, filesize, filesize, rng.randrange(vmsize + 1)))
-    return (vmaddr + inside + rng.choice((-1, 0, 0, 1))) % 2 ** 64
-
-def written(rng, number):
-    """A number as a word."""
-    return rng.choice(("%d", "0x%x", "0x%X", "0x%016x", "%020d")) % number
-
 # The two answers
-
-def load(path, profile):
-    spec = importlib.util.spec_from_file_location("oracle", path)
-    module = importlib.util.module_from_spec(spec)
-    spec.loader.exec_module(module)
-    module.check = functools.partial(module.check, profile=profile)
-    return module
 
 def for_verdict(name, data, profile):
     """The question for the verdict by a profile. By that of the layout macho-check answers."""
@@ -342,7 +47,8 @@ def oracle_answer(oracle, question):
     """The status and the text of the oracle. That it fails is an answer too, which is never that of the program."""
     try:
         if question.before != "where":
-            status, out, err = oracle.check(question.data)
+            profile = "layout" if question.before == "check" else question.before
+            status, out, err = oracle.check(question.data, profile)
         else:
             numbers = [oracle.number(word) for word in question.after]
             if None in numbers:
@@ -457,24 +163,21 @@ def up_to(profile):
     return PROFILES[:PROFILES.index(profile) + 1]
 
 def read_all_vectors(profile):
-    """The files of vectors, by their paths. Some are for one profile alone. A further profile is judged on the files of
+    """The files of vectors, by their paths. A further profile is judged on the files of
     those before it too: of these it has the refusals, and which of their acceptances it has is not known by hand."""
-    files = [(path, read_vectors(path)) for path in sorted(Path(DATA).glob("*.txt"))]
-    if profile == "layout":
-        return [(path, vectors) for path, vectors in files if not vectors[0].is_strict]
-    files += [(path, read_vectors(path)) for path in (LINKED, SEALED) if path.stem in up_to(profile)]
+    files = [(path, read_vectors(path)) for path in vector_files(profile)]
     return [(path, vectors if is_whole(path, profile) else list(map(without_acceptance, vectors)))
             for path, vectors in files]
 
 def is_whole(path, profile):
     """Whether all verdicts of the file by the profile are known by hand."""
-    return profile == "layout" or path.stem == profile
+    return profile_of(path) == profile
 
 def without_acceptance(vector):
     return vector._replace(wanted="") if vector.wanted == "accepted" else vector
 
 def read_all_reports():
-    return read_reports(Path(TOP, "tests", "reports.txt"))
+    return read_vectors(REPORTS)
 
 def judge_vectors(report, oracle, program, profile):
     """Three are compared: what stands in the data, the oracle, and the program."""
@@ -512,10 +215,10 @@ def judge_reports(report, oracle, program):
     right = 0
     for question, vector in zip(questions, reports):
         says = oracle_answer(oracle, question)
-        if says == (0, vector.wanted.encode()):
+        if says == (0, vector.layout.encode()):
             right += 1
         else:
-            report.show(Difference(question, says, (0, vector.wanted.encode())), "by hand")
+            report.show(Difference(question, says, (0, vector.layout.encode())), "by hand")
     report.case("the reports, by hand", "%d texts" % right, "%d texts" % len(reports))
     report.agreeing("the reports", compare(oracle, program, questions).differences, len(questions), "answers")
 
@@ -654,7 +357,7 @@ def main():
     parser.add_argument("--jobs", type=int, default=2, help="how many processes; 2 otherwise")
     parser.add_argument("--keep", default=os.path.join(tempfile.gettempdir(), "macho-check-differences"),
                         help="the folder for files on which the two differ")
-    parser.add_argument("--oracle", default=os.path.join(TOP, "tests", "oracle.py"), help="another oracle")
+    parser.add_argument("--oracle", default=ORACLE, help="another oracle")
     parser.add_argument("--program", help="another program")
     parser.add_argument("--first", action="store_true", help="mutants alone, up to the first difference")
     parser.add_argument("folders", nargs="*", help="folders of other files, which are judged and mutated as well")
@@ -662,7 +365,7 @@ def main():
 
     profile = words.profile
     program = words.program or (MACHO_CHECK if profile == "layout" else MACHO_VERIFY)
-    oracle = load(words.oracle, profile)
+    oracle = load(words.oracle)
     report = Report(words.keep)
     vectors = [vector for _, vectors in read_all_vectors(profile) for vector in vectors]
     real = [data for _, data, _ in read_real()]
