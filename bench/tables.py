@@ -3,6 +3,7 @@ and the folders of tests/, which are found once this is imported."""
 
 from __future__ import annotations
 
+import argparse
 import os
 import resource
 import sys
@@ -19,6 +20,25 @@ def library_folder(script: str) -> Path:
     if not (folder / "libkesvuot.a").exists():
         raise SystemExit(f"{script}: {folder / 'libkesvuot.a'} is not there: call `make lib`")
     return folder
+
+
+def parser_of(description: str) -> argparse.ArgumentParser:
+    """The words of a program that times made files and others."""
+    parser = argparse.ArgumentParser(description=description.split("\n", 1)[0])
+    parser.add_argument("--only", action="append", metavar="WORD", help="the made files whose names contain it")
+    parser.add_argument("--rounds", type=int, default=5, metavar="N", help="how often each is timed (5)")
+    parser.add_argument("--list", action="store_true", help="print the names of the made files")
+    parser.add_argument("files", nargs="*", type=Path, metavar="FILE", help="other files")
+    return parser
+
+
+def chosen(names: list[str], options: argparse.Namespace) -> list[str]:
+    """The names that --only takes. With --list they are printed, and that is all."""
+    names = [name for name in names if any(word in name for word in options.only or [""])]
+    if options.list:
+        print("\n".join(names))
+        raise SystemExit
+    return names
 
 
 def processor_time() -> float:

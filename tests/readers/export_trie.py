@@ -20,11 +20,11 @@ from os.path import commonprefix
 from typing import Iterable, Iterator, List, NamedTuple, Optional, Tuple
 
 from fixtures.table_mutants import WORD, uleb
-from kesvuot.constants import LC_DYLD_EXPORTS_TRIE, LC_DYLD_INFO, LC_DYLD_INFO_ONLY
+from kesvuot.constants import (
+    EXPORT_SYMBOL_FLAGS_KIND_ABSOLUTE as ABSOLUTE, EXPORT_SYMBOL_FLAGS_KIND_MASK as KIND_MASK,
+    EXPORT_SYMBOL_FLAGS_REEXPORT as REEXPORT, EXPORT_SYMBOL_FLAGS_STUB_AND_RESOLVER as STUB_AND_RESOLVER,
+    LC_DYLD_EXPORTS_TRIE, LC_DYLD_INFO, LC_DYLD_INFO_ONLY)
 from reference.oracle import Image, Malformed, operand
-
-KIND_MASK, REGULAR, THREAD_LOCAL, ABSOLUTE = 3, 0, 1, 2
-WEAK_DEFINITION, REEXPORT, STUB_AND_RESOLVER, STATIC_RESOLVER = 4, 8, 0x10, 0x20
 
 
 class Export(NamedTuple):

@@ -20,9 +20,10 @@ import sys
 import tempfile
 from collections import Counter, namedtuple
 
-from fixtures.file_mutants import WAYS_OF, images, mutant, says_more, some_address, weight, written
+from fixtures.file_mutants import WAYS_OF, mutant, says_more, some_address, weight, written
 from fixtures.files import REPORTS, SEALED, profile_of, signed_image, vector_files
 from fixtures.notation import read_count, read_vectors
+from fixtures.table_mutants import starts_of_images
 from support.programs import MACHO_CHECK, MACHO_VERIFY, PROFILES, REAL
 
 from . import ORACLE, load
@@ -103,7 +104,7 @@ def batch(bounds):
         return len(verdicts), judged.differences, judged.kinds
     addresses = []
     for question, (data, rng), answer in zip(verdicts, mutants, judged.program):
-        last = max(len(images(data)) - 1, 0)
+        last = max(len(starts_of_images(data)) - 1, 0)
         for _ in range(2 if rng.random() < (0.7 if answer[0] == 0 else 0.05) else 0):
             words = (written(rng, rng.choice((0, rng.randint(0, last), last, last + 1))),
                      written(rng, some_address(rng, data)))

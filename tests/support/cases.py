@@ -16,7 +16,7 @@ from typing import Iterator, NoReturn, Sequence
 
 from .calling import Answer, has_tool
 from .processes import end_with_children
-from .programs import is_built
+from .programs import is_built, why_no_library
 
 
 class Case(unittest.TestCase):
@@ -59,6 +59,13 @@ class Case(unittest.TestCase):
                 return False
         return True
 
+    def needs_library(self, case: str) -> bool:
+        """Whether there is a library to test. Where there is none, the case is skipped."""
+        why = why_no_library()
+        if why:
+            self.skip(case, why)
+        return not why
+
     def answers(self, case: str, answer: Answer, status: int, out: str = "", err: str = "") -> None:
         """The program ended with this status, and wrote exactly this."""
         self.same(case, answer, Answer(status, out.encode(), err.encode()))
@@ -67,6 +74,16 @@ class Case(unittest.TestCase):
         """The answer of a call that only prepares a case, and has to end with 0."""
         self.assertEqual(answer.status, 0, answer.error or answer.text)
         return answer
+
+
+class LibraryCase(Case):
+    """A test of what the library answers, which is skipped where there is no library to test."""
+
+    @classmethod
+    def setUpClass(cls) -> None:
+        why = why_no_library()
+        if why:
+            raise unittest.SkipTest(f"{cls.__name__}: {why}")
 
 
 class Lines(unittest.TestResult):
