@@ -45,7 +45,7 @@ from kesvuot.constants import (  # pylint: disable=wrong-import-order
     LC_VERSION_MIN_TVOS, LC_VERSION_MIN_WATCHOS)
 
 SHOWN = 20
-# The commands whose data tests/*.reads and tests/real/*.reads show, in their order. The last one is of another kind.
+# The commands whose data tests/fixtures/*.reads and tests/real/*.reads show, in their order. The last one is of another kind.
 DATA_COMMANDS = (LC_CODE_SIGNATURE, LC_FUNCTION_STARTS, LC_DATA_IN_CODE, LC_DYLD_EXPORTS_TRIE, LC_DYLD_CHAINED_FIXUPS,
                  LC_SYMTAB)
 # Of <mach-o/loader.h>: the version_min_commands, by their platforms.
@@ -293,7 +293,7 @@ def compare_reads(report, all_kinds):
     """The texts are written by hand: tests/library says from what."""
     real = {name: data for name, data, _ in oracle_trials.read_real()}
     for name, data, index, path in (
-            ("the file of all kinds", all_kinds, 0, "all-kinds.reads"),
+            ("the file of all kinds", all_kinds, 0, "fixtures/all-kinds.reads"),
             ("the real program", real["program"], 0, "real/program.reads"),
             ("the real library for x86_64", real["library"], 0, "real/library.0.reads"),
             ("the real library for arm64", real["library"], 1, "real/library.1.reads")):
