@@ -3,29 +3,19 @@ use Rattle.std.proofs.Common.{◌≡◌, ◌⊎◌, ◌∙◌, ◌<◌, ◌==◌
 use Rattle.std.proofs.Common.{arith, refl, sym, ap, subst, inl, inr, codes, Option, Some, None, Result, Ok, Err, option_map}
 use Rattle.std.specs.Prelude.{IsErrAnd}
 use Rattle.std.proofs.lemmas.Option.{same_Some}
-use Rattle.clap.specs.Words.{App, IsAmong, Kinds, Row, Text, fault_of, is_simple, is_simple_and_free, subcommand_of}
+use Rattle.clap.specs.Words.{App, IsAmong, Kinds, Row, Text, fault_of, subcommand_of}
 use Rattle.clap.specs.declared.error.kind.ErrorKind.{ErrorKind}
 use Rattle.clap.specs.declared.error.kind.ErrorKind.TheVariants.{OutOfMemory}
+use Rattle.macho_program.specs.Asked.{Answers, AnswersFault, Asked, asked_unless}
+use Rattle.macho_program.specs.declared.task.Task.{Task}
 use Rattle.macho_program.specs.declared.words.Request.{Request}
 use Rattle.macho_program.specs.declared.words.WordFault.{WordFault}
 use Rattle.macho_program.specs.declared.words.WordFault.TheVariants.{Usage, Memory}
-use Rattle.macho_program.specs.Words.{AnswersRequest, asked_in, asked_of, asked_unless, verdict, check_or_where, word_fault_of}
+use Rattle.macho_program.specs.Words.{AnswersRequest, asked_in, asked_of, asked_under, verdict, check_or_where, word_fault_of}
 
-command_is_simple : is_simple check_or_where ≡ true
-command_is_simple = refl
-
-pub command_is_free : is_simple_and_free check_or_where ≡ true
-command_is_free = refl
-
--- the words have no fault for the command of a program, where they have none for the command that was built
-pub no_faults : (app : App) (words : List Text) → app ≡ check_or_where → (is_simple_and_free app ≡ true → fault_of app words ≡ [])
-    → fault_of check_or_where words ≡ []
-no_faults app words is none = subst (λ (a : App). fault_of a words ≡ []) is (none (ap is_simple_and_free is ∙ command_is_free))
-
--- the subcommand that was found with the command that was built is that of the program
-pub subcommand_is : (app : App) (words : List Text) (given : Option (Text × List Row)) → app ≡ check_or_where
-    → (is_simple app ≡ true → given ≡ subcommand_of app words) → subcommand_of check_or_where words ≡ given
-subcommand_is app words given is found = subst (λ (a : App). subcommand_of a words ≡ given) is (sym (found (ap is_simple is ∙ command_is_simple)))
+-- what holds of a simple command that was built holds of the command of a program that it is
+pub of_known : (is_such : App → Bool) (P : App → Type 0) (app known : App) → app ≡ known → is_such known ≡ true → (is_such app ≡ true → P app) → P known
+of_known is_such P app known is such holds = subst P is (holds (ap is_such is ∙ such))
 
 pub some_words : {X : Type 0} (text : X → Text) (words : List X) (empty : Bool) → empty ≡ (length words == 0) → empty ≡ false → 0 < length (map text words)
 some_words text [] empty is not = let bad : true ≡ false = sym is ∙ not in cc
@@ -56,13 +46,13 @@ no_subcommand None f (Some x) is rows = absurd (cc)
 no_subcommand (Some y) f o is rows = absurd (cc)
 
 asked_of_some : (words : List Text) → 0 < length words
-    → asked_unless (fault_of check_or_where words) (subcommand_of check_or_where words) ≡ asked_of words
+    → asked_unless (fault_of check_or_where words) (asked_under (subcommand_of check_or_where words)) ≡ asked_of words
 asked_of_some [] some = absurd (omega arith)
 asked_of_some (word ∷ words) some = refl
 
 -- the answer of a subcommand that `clap` takes
 taken : (faults : Kinds) (sub : Option (Text × List Row)) (name : Text) (rows : List Row) (r : Result Request WordFault)
-    → faults ≡ [] → sub ≡ Some (name, rows) → AnswersRequest r (asked_in name rows) → AnswersRequest r (asked_unless faults sub)
+    → faults ≡ [] → sub ≡ Some (name, rows) → AnswersRequest r (asked_in name rows) → AnswersRequest r (asked_unless faults (asked_under sub))
 taken faults sub name rows r none met answers = rw (none, met) answers
 
 pub asked_and_taken : (words : List Text) (name : Text) (rows : List Row) (r : Result Request WordFault) → 0 < length words
@@ -71,7 +61,7 @@ pub asked_and_taken : (words : List Text) (name : Text) (rows : List Row) (r : R
 asked_and_taken words name rows r some none met answers = subst (AnswersRequest r) (asked_of_some words some) (taken _ _ name rows r none met answers)
 
 -- `clap` takes the words, and no subcommand is among them
-without_subcommand : (faults : Kinds) (sub : Option (Text × List Row)) → faults ≡ [] → sub ≡ None → asked_unless faults sub ≡ Err Usage
+without_subcommand : (faults : Kinds) (sub : Option (Text × List Row)) → faults ≡ [] → sub ≡ None → asked_unless faults (asked_under sub) ≡ Err Usage
 without_subcommand faults sub none is = rw (none, is) refl
 
 pub asked_without_subcommand : (words : List Text) → 0 < length words → fault_of check_or_where words ≡ [] → subcommand_of check_or_where words ≡ None
@@ -79,21 +69,27 @@ pub asked_without_subcommand : (words : List Text) → 0 < length words → faul
 asked_without_subcommand words some none is = sym (asked_of_some words some) ∙ without_subcommand _ _ none is
 
 -- a fault of `clap` is that of the words, or of memory
-pub usage_or_memory : (kind : ErrorKind) → (word_fault_of kind ≡ Usage) ⊎ (word_fault_of kind ≡ Memory)
+usage_or_memory : (kind : ErrorKind) → (word_fault_of kind ≡ Usage) ⊎ (word_fault_of kind ≡ Memory)
 usage_or_memory OutOfMemory = inr refl
 usage_or_memory _ = inl refl
 
--- the answer to words that `clap` refuses
-refused : (faults : Kinds) (sub : Option (Text × List Row)) (kind : ErrorKind) (r : Result Request WordFault) → (kind ≡ OutOfMemory) ⊎ IsAmong kind faults
-    → IsErrAnd r (λ fault. fault ≡ word_fault_of kind) → AnswersRequest r (asked_unless faults sub)
-refused faults sub kind (Ok request) why is = absurd is
-refused faults sub kind (Err fault) (inl memory) is = let out : fault ≡ Memory = is ∙ ap word_fault_of memory in rw out tt
-refused [] sub kind (Err fault) (inr among) is = absurd among
-refused (k ∷ ks) sub kind (Err fault) (inr among) is = elim (usage_or_memory kind) [
+-- the fault of words that `clap` refuses
+refusal : {J : Type 0} (faults : Kinds) (asked : Result (Asked J) WordFault) (kind : ErrorKind) (fault : WordFault) → (kind ≡ OutOfMemory) ⊎ IsAmong kind faults
+    → fault ≡ word_fault_of kind → AnswersFault fault (asked_unless faults asked)
+refusal faults asked kind fault (inl memory) is = let out : fault ≡ Memory = is ∙ ap word_fault_of memory in rw out tt
+refusal [] asked kind fault (inr among) is = absurd among
+refusal (k ∷ ks) asked kind fault (inr among) is = elim (usage_or_memory kind) [
   | inl usage ↦ let out : fault ≡ Usage = is ∙ usage in rw out refl
   | inr memory ↦ let out : fault ≡ Memory = is ∙ memory in rw out tt
 ]
 
+-- the answer to such words
+pub refused : {J : Type 0} (faults : Kinds) (asked : Result (Asked J) WordFault) (kind : ErrorKind) (r : Result (Task J) WordFault) → (kind ≡ OutOfMemory) ⊎ IsAmong kind faults
+    → IsErrAnd r (λ fault. fault ≡ word_fault_of kind) → Answers r (asked_unless faults asked)
+refused faults asked kind (Ok task) why is = absurd is
+refused faults asked kind (Err fault) why is = refusal faults asked kind fault why is
+
 pub asked_and_refused : (words : List Text) (kind : ErrorKind) (r : Result Request WordFault) → 0 < length words
     → (kind ≡ OutOfMemory) ⊎ IsAmong kind (fault_of check_or_where words) → IsErrAnd r (λ fault. fault ≡ word_fault_of kind) → AnswersRequest r (asked_of words)
-asked_and_refused words kind r some why is = subst (AnswersRequest r) (asked_of_some words some) (refused _ _ kind r why is)
+asked_and_refused words kind (Ok request) some why is = absurd is
+asked_and_refused words kind (Err fault) some why is = subst (AnswersRequest (Err fault)) (asked_of_some words some) (refusal _ _ kind fault why is)

@@ -1,5 +1,5 @@
 -- The lines on standard error. Each ends with one line feed.
-use Rattle.std.specs.Prelude.{◌≡◌, ℕ, List, Bool, true, false, Option, Some, None, Result, Ok, Err, codes}
+use Rattle.std.specs.Prelude.{◌≡◌, ℕ, List, Option, Some, None, Result, Ok, Err, codes}
 use Rattle.macho_report.specs.Stream.{WritesUnlessFailed}
 use Rattle.macho_report.specs.Text.{run_fault_reason, words_line}
 use Rattle.macho_report.specs.declared.address.WhereOutcome.TheVariants.{NoImage}

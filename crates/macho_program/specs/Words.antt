@@ -1,14 +1,14 @@
 -- What the words after the program's name ask for, by what `clap` says of a simple command.
-use Rattle.std.specs.Prelude.{ℕ, List, [], ◌∷◌, true, Option, Some, None, Result, Ok, Err, ⊤, ◌≡◌, if◌then◌else◌, codes}
+use Rattle.std.specs.Prelude.{ℕ, List, [], ◌∷◌, true, Option, Some, None, Result, Ok, Err, ◌≡◌, if◌then◌else◌, codes}
 use Rattle.std.specs.Str.{bytes_eq}
 use Rattle.std.specs.String.{string_bytes}
-use Rattle.clap.specs.Words.{App, Kinds, Row, Rule, Text, fault_of, first_of, new_app, new_rule, subcommand_of, with_rule, with_subcommand}
+use Rattle.clap.specs.Words.{App, Row, Rule, Text, fault_of, first_of, new_app, new_rule, subcommand_of, with_rule, with_subcommand}
 use Rattle.clap.specs.Simple.{on_top}
 use Rattle.clap.specs.declared.error.kind.ErrorKind.{ErrorKind}
 use Rattle.clap.specs.declared.error.kind.ErrorKind.TheVariants.{OutOfMemory}
 use Rattle.macho_program.specs.Number.{word_number}
 use Rattle.macho_report.specs.declared.judge.LayoutRules.{LayoutRules}
-use Rattle.macho_program.specs.Asked.{Asked, asks}
+use Rattle.macho_program.specs.Asked.{AnswersFault, Asked, asked_unless, asks}
 use Rattle.macho_program.specs.declared.task.Question.TheVariants as question
 use Rattle.macho_program.specs.declared.words.Request.{Request}
 use Rattle.macho_program.specs.declared.words.Request.TheVariants.{Check, Where}
@@ -88,22 +88,16 @@ abbrev pub asked_under : Option (Text × List Row) → Result AskedOfCheck WordF
 asked_under (Some subcommand) = asked_in subcommand.0 subcommand.1
 asked_under None = Err Usage
 
--- the same, where `clap` finds these faults in the words
-abbrev pub asked_unless : Kinds → Option (Text × List Row) → Result AskedOfCheck WordFault
-asked_unless [] subcommand = asked_under subcommand
-asked_unless (fault ∷ faults) subcommand = Err Usage
-
 -- what the words ask of macho-check, or why they ask for nothing
 abbrev pub asked_of : List Text → Result AskedOfCheck WordFault
 asked_of [] = Ok (verdict (codes "-"))
 asked_of (word ∷ words) =
-    asked_unless (fault_of check_or_where (word ∷ words)) (subcommand_of check_or_where (word ∷ words))
+    asked_unless (fault_of check_or_where (word ∷ words)) (asked_under (subcommand_of check_or_where (word ∷ words)))
 
 -- the answer is what is asked, or memory ran out
 abbrev pub AnswersRequest : Result Request WordFault → Result AskedOfCheck WordFault → Type 0
 AnswersRequest (Ok request) answer = answer ≡ Ok (requested_by request)
-AnswersRequest (Err Memory) answer = ⊤
-AnswersRequest (Err fault) answer = answer ≡ Err fault
+AnswersRequest (Err fault) answer = AnswersFault fault answer
 
 -- the fault for an error of `clap` of this kind
 abbrev pub word_fault_of : ErrorKind → WordFault

@@ -2,10 +2,10 @@
 use Rattle.std.specs.Prelude.{ℕ, List, [], ◌∷◌, ◌++◌, map, Option, Some, None, Result, Ok, Err, if◌then◌else◌, codes}
 use Rattle.std.specs.List.{join_with_byte}
 use Rattle.std.specs.Str.{bytes_eq}
-use Rattle.clap.specs.Words.{App, Kinds, Row, Text, fault_of, first_of, matches_of, with_rule}
+use Rattle.clap.specs.Words.{App, Row, Text, fault_of, first_of, matches_of, with_rule}
 use Rattle.macho_fields.specs.RuleList.{all_profiles, profile_name, profile_named}
 use Rattle.macho_fields.specs.declared.rule.Profile.{Profile}
-use Rattle.macho_program.specs.Asked.{Asked, shows, asks}
+use Rattle.macho_program.specs.Asked.{Asked, asked_unless, asks, shows}
 use Rattle.macho_program.specs.Words.{bare_command, required}
 use Rattle.macho_program.specs.declared.task.Question.TheVariants.{Verdict}
 use Rattle.macho_program.specs.declared.words.WordFault.{WordFault}
@@ -36,15 +36,10 @@ asked_by_texts _ _ = Err Usage
 abbrev pub asked_in : List Row → Result (Asked ProfileRules) WordFault
 asked_in rows = asked_by_texts (first_of (codes "PROFILE") rows) (first_of (codes "FILE") rows)
 
--- the same, where `clap` finds these faults in the words
-abbrev pub asked_unless : Kinds → List Row → Result (Asked ProfileRules) WordFault
-asked_unless [] rows = asked_in rows
-asked_unless (fault ∷ faults) rows = Err Usage
-
 -- which verdict the words ask for, or why they ask for none
 abbrev pub verdict_asked : List Text → Result (Asked ProfileRules) WordFault
 verdict_asked words =
-    asked_unless (fault_of profile_and_file words) (matches_of profile_and_file words)
+    asked_unless (fault_of profile_and_file words) (asked_in (matches_of profile_and_file words))
 
 -- the text of its own that macho-verify shows where this is the first word
 abbrev pub own_text : Text → Option Text
