@@ -73,7 +73,7 @@ install-programs: built
 
 # The library alone, which `make lib` builds, with the command kesvuot.
 install-lib: built-lib
-	install -d $(TO_LIB)/pkgconfig $(TO_LIB)/cmake/kesvuot $(TO_INCLUDE) $(TO_MAN)/man3 $(TO_DOC) $(TO_PYTHON)/kesvuot
+	install -d $(TO_LIB)/pkgconfig $(TO_LIB)/cmake/kesvuot $(TO_INCLUDE) $(TO_MAN)/man3 $(TO_DOC)/rules $(TO_PYTHON)/kesvuot
 	install -d $(TO_BIN) $(TO_MAN)/man1 $(TO_BASH) $(TO_ZSH) $(TO_FISH)
 	install -m 644 build/lib/libkesvuot.a build/lib/libkesvuot.so.2 $(TO_LIB)
 	ln -sf libkesvuot.so.2 $(TO_LIB)/libkesvuot.so
@@ -86,7 +86,7 @@ install-lib: built-lib
 	    $(TO_PYTHON)/kesvuot
 	install -m 644 man/kesvuot.3 $(TO_MAN)/man3
 	for call in $(CALLS); do ln -sf kesvuot.3 $(TO_MAN)/man3/$$call.3 || exit; done
-	install -m 644 docs/RULES.md docs/LINKED.md docs/SEALED.md $(TO_DOC)
+	install -m 644 docs/rules/*.md $(TO_DOC)/rules
 	$(FILL_TOOL) packaging/kesvuot.in >$(TO_BIN)/kesvuot
 	chmod 755 $(TO_BIN)/kesvuot
 	install -m 644 man/kesvuot.1 $(TO_MAN)/man1
@@ -103,7 +103,8 @@ uninstall:
 	rm -f $(TO_LIB)/libkesvuot.a $(TO_LIB)/libkesvuot.so.2 $(TO_LIB)/libkesvuot.so $(TO_LIB)/pkgconfig/kesvuot.pc
 	rm -f $(TO_INCLUDE)/kesvuot.h
 	rm -rf $(TO_LIB)/cmake/kesvuot $(TO_PYTHON)/kesvuot
-	rm -f $(TO_MAN)/man3/kesvuot.3 $(TO_DOC)/RULES.md $(TO_DOC)/LINKED.md $(TO_DOC)/SEALED.md
+	rm -f $(TO_MAN)/man3/kesvuot.3
+	rm -rf $(TO_DOC)/rules
 	for call in $(CALLS); do rm -f $(TO_MAN)/man3/$$call.3; done
 	rmdir $(TO_DOC) 2>/dev/null || :
 

@@ -1,5 +1,5 @@
 // Decides what macho-check decides of standard input, and prints the same text with the same status: the layout of a
-// file that breaks no rule of docs/RULES.md (status 0), or the first rule that is broken and its place (status 1).
+// file that breaks no rule of docs/rules (status 0), or the first rule that is broken and its place (status 1).
 //
 //     tests/reference/rules_tables.py >rules_tables.h && cc -std=c99 -O2 -I. -o floor bench/floor.c
 //     ./floor [--strict | --linked] <FILE
@@ -13,11 +13,11 @@
 // bench/speed reads it: standard input has to be a file, of 4 GiB at most. Where it cannot be read, or there is no
 // memory, or writing fails, there is no verdict (status 3, 4 and 3).
 //
-// Structures and constants have their public names. The rules stand in the order of docs/RULES.md, a function for each:
+// Structures and constants have their public names. The rules stand in the order of docs/rules, a function for each:
 // of the file, of the header and the load commands, of segments and sections, of tables and symbols, and of the entry.
 // After them stand the walk and the judgment, which call them, then the strict and the linked profile, and the report.
 // The names of the rules, the filetypes, the listed commands and their tables are those of that page and of
-// docs/LINKED.md, as rules_tables.h has them.
+// docs/rules/linked.md, as rules_tables.h has them.
 
 #define _GNU_SOURCE // memrchr
 #include <stdbool.h>
@@ -1772,7 +1772,7 @@ static void judge_universal_strictly(const struct file *file, const struct unive
     }
 }
 
-// The linked profile of docs/LINKED.md, of files that break no rule above
+// The linked profile of docs/rules/linked.md, of files that break no rule above
 
 // The kinds of linked data that a command names, a bit for each. Fixups and exports can be of one command.
 enum { FIXUPS = 1, EXPORTS = 2, STARTS = 4, CODE = 8, SIGNATURE = 16 };

@@ -12,7 +12,7 @@
 //     cc -std=c99 -O2 -Ibindings/c -o extract examples/extract.c build/lib/libkesvuot.a
 //
 // The file may be from a stranger. The library judges it once. After that no offset of the file is tested: a comment at
-// each read says which rule of docs/RULES.md promises that the bytes exist.
+// each read says which rule of docs/rules promises that the bytes exist.
 
 #include <inttypes.h>
 #include <stdbool.h>

@@ -1,4 +1,4 @@
-"""What docs/RULES.md, LINKED.md and SEALED.md say of a rule, as _rules.py of the package for Python has it."""
+"""What the page of a rule says of it, as _rules.py of the package for Python has it."""
 
 from __future__ import annotations
 
@@ -7,7 +7,7 @@ import sys
 import textwrap
 from typing import List
 
-LABELS = ("Broken when", "Why", "Usual cause", "To do", "To look")
+LABELS = ("Violated when", "Why", "Usual cause", "What to do", "How to look")
 
 
 def rule_lines(rule: str, name: str, page: str) -> List[str]:

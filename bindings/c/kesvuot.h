@@ -21,7 +21,7 @@
  * Every call is safe on any bytes, and on any numbers in the structures below. It does not rely on earlier calls:
  * neither that kesvuot_verify accepted the file, nor that a structure is still as a call wrote it. Every span that it
  * writes lies in the file that it got. A part that would lie outside is left empty. In an accepted file no part is
- * empty for that reason, which is proved, and each part is as RULES.md says.
+ * empty for that reason, which is proved, and each part is as rules/layout.md says.
  *
  * You must ensure:
  * - Each pointer is valid for as many bytes or rows as you pass. It may be null only if the size or count is 0.
@@ -80,23 +80,23 @@ enum {
 enum {
     /* registry: profiles */
     KESVUOT_LAYOUT = 1, /* a loader that follows the headers and checks no bounds reads only bytes of the slice.
-                           RULES.md explains the rules */
+                           rules/layout.md explains the rules */
     KESVUOT_STRICT = 2, /* every nonzero byte is accounted for, and no byte belongs to two elements, such as the
-                           headers, a section or a table. RULES.md explains the rules */
+                           headers, a section or a table. rules/strict.md explains the rules */
     KESVUOT_LINKED = 3, /* the rules judge where the linked data of an image lies; what the opcodes of LC_DYLD_INFO and
                            LC_DYLD_INFO_ONLY, the table of LC_DYLD_CHAINED_FIXUPS and the chains of pointers in the
                            pages ask a dynamic loader for; what the image exports; where functions start and data is in
                            code; how a code signature is built; what symbols and relocations refer to; where threads
-                           begin; and what all other commands of loader.h hold. LINKED.md explains the rules */
+                           begin; and what all other commands of loader.h hold. rules/linked.md explains the rules */
     KESVUOT_SEALED = 4  /* each image has a code signature; each code directory has the hashes of all bytes before the
                            signature and of the blobs in special slots; and each nonzero byte from the signature on is
                            in the signature's header, its index or a blob. The profile does not say who signed, and it
-                           reads nothing outside of the file. SEALED.md explains the rules */
+                           reads nothing outside of the file. rules/sealed.md explains the rules */
     /* registry: end */
 };
 
-/* The rules, in the order in which this version judges them. RULES.md says when each is broken, what usually breaks it,
- * and what its place is. */
+/* The rules, in the order in which this version judges them. The page of a profile says when each is broken, what
+ * usually breaks it, and what its place is. */
 enum {
     /* registry: rules */
     /* of the file */
@@ -132,7 +132,7 @@ enum {
     KESVUOT_SYMBOL_SECTION = 29,
     KESVUOT_INDIRECT_INDEX = 30,
     KESVUOT_ENTRY = 31,
-    /* of the strict profile */
+    /* of the strict profile: rules/strict.md explains them */
     KESVUOT_FAT_STRAY_BYTE = 32,
     KESVUOT_COMMANDS_END = 33,
     KESVUOT_HEADER_SEGMENT = 34,
@@ -142,7 +142,7 @@ enum {
     KESVUOT_ENCRYPTED_RANGE = 38,
     KESVUOT_COMMAND_SLACK = 39,
     KESVUOT_UNCLAIMED_BYTE = 40,
-    /* of the linked profile: LINKED.md explains them */
+    /* of the linked profile: rules/linked.md explains them */
     KESVUOT_TABLE_REPEATED = 41,
     KESVUOT_FUNCTION_VARIANTS = 42,
     KESVUOT_TABLE_HOME = 43,
@@ -180,7 +180,7 @@ enum {
     KESVUOT_RELOCATION = 75,
     KESVUOT_THREAD = 76,
     KESVUOT_COMMAND_CONTENT = 77,
-    /* of the sealed profile: SEALED.md explains them */
+    /* of the sealed profile: rules/sealed.md explains them */
     KESVUOT_SIGNATURE_MISSING = 78,
     KESVUOT_DIRECTORY_REPEATED = 79,
     KESVUOT_SIGNATURE_SLACK = 80,
@@ -293,7 +293,8 @@ enum {
     KESVUOT_PART_SECTION_MEMORY = 14, /* its addresses: size from addr on */
     KESVUOT_PART_RELOCATIONS = 15,    /* its relocations */
     KESVUOT_PART_TABLE = 16,          /* a table that a command bounds. The index counts its tables in the order of
-                                         "Bounded tables" in RULES.md: of LC_SYMTAB 0 the symbols, 1 the strings */
+                                         "Bounded tables" in rules/layout.md: of LC_SYMTAB 0 the symbols, 1 the
+                                         strings */
     KESVUOT_PART_GROUP = 17,          /* indices of symbols: 0 the local, 1 the external, 2 the undefined ones */
     KESVUOT_PART_NAME = 18,           /* the bytes from the start of a name to where it has to end */
     KESVUOT_PART_SYMBOL = 19,         /* nlist_64, with the index of kesvuot_read_symbols */
@@ -423,7 +424,7 @@ struct kesvuot_image {
     uint32_t cputype;          /* any number. In a universal file the table has the same, and so for cpusubtype */
     uint32_t cpusubtype;       /* without the high byte, CPU_SUBTYPE_MASK. Any number */
     uint32_t capabilities;     /* that byte, such as the version of arm64e's ABI. Any number below 256 */
-    uint32_t filetype;         /* one that RULES.md lists: one of KESVUOT_MH_.. */
+    uint32_t filetype;         /* one that rules/layout.md lists: one of KESVUOT_MH_.. */
     uint32_t flags;            /* any number */
     uint32_t has;              /* KESVUOT_HAS_.. */
     uint32_t groups[6];        /* HAS_DYSYMTAB: ilocalsym, nlocalsym, iextdefsym, nextdefsym, iundefsym, nundefsym. An
@@ -502,8 +503,8 @@ struct kesvuot_build { /* build_version_command or version_min_command. An image
 };
 
 struct kesvuot_command {       /* load_command */
-    struct kesvuot_span bytes; /* all cmdsize bytes, at least 8. If RULES.md lists cmd, its structure and records are
-                                  among them. Otherwise nothing past the first 8 is judged */
+    struct kesvuot_span bytes; /* all cmdsize bytes, at least 8. If rules/layout.md lists cmd, its structure and records
+                                  are among them. Otherwise nothing past the first 8 is judged */
     struct kesvuot_span name;  /* of a listed dylib_command, dylinker_command (the dynamic linker) or rpath_command (a
                                   run path), otherwise none */
     uint32_t cmd;              /* any number */
@@ -584,7 +585,7 @@ size_t kesvuot_read_sections(const void *file, size_t size, const struct kesvuot
  * LC_LOAD_UPWARD_DYLIB. What it is itself is `id` of the image. */
 size_t kesvuot_read_libraries(const void *file, size_t size, const struct kesvuot_image *image,
                               struct kesvuot_cursor *cursor, struct kesvuot_library *rows, size_t max);
-/* Each LC_BUILD_VERSION, and each LC_VERSION_MIN_.. of at least 16 bytes. RULES.md does not list the latter. */
+/* Each LC_BUILD_VERSION, and each LC_VERSION_MIN_.. of at least 16 bytes. rules/layout.md does not list the latter. */
 size_t kesvuot_read_builds(const void *file, size_t size, const struct kesvuot_image *image,
                            struct kesvuot_cursor *cursor, struct kesvuot_build *rows, size_t max);
 size_t kesvuot_read_symbols(const void *file, size_t size, const struct kesvuot_image *image,
@@ -779,7 +780,7 @@ size_t kesvuot_read_export_edges(const void *file, size_t size, const struct kes
 /* The data of the first linkedit_data_command with this cmd, such as LC_CODE_SIGNATURE (0x1d) or LC_FUNCTION_STARTS
  * (0x26).
  * OK: all datasize bytes from dataoff on. If datasize is 0, there are none, whatever dataoff is.
- * NONE: the image has no such command, or RULES.md does not list cmd as a linkedit_data_command (for example
+ * NONE: the image has no such command, or rules/layout.md does not list cmd as a linkedit_data_command (for example
  * LC_ATOM_INFO, 0x36). In a file that was not accepted, also if the data ends past the image, or the headers break a
  * rule. After NONE the span is empty. */
 uint32_t kesvuot_find_data(const void *file, size_t size, const struct kesvuot_image *image, uint32_t cmd,
@@ -818,7 +819,7 @@ uint32_t kesvuot_find_table(const void *file, size_t size, const struct kesvuot_
                             struct kesvuot_span *bytes);
 
 /* The version a.b.c.d.e of the sources, by the first LC_SOURCE_VERSION of at least 16 bytes: a << 40 | b << 30 |
- * c << 20 | d << 10 | e. Any number: RULES.md does not list the command.
+ * c << 20 | d << 10 | e. Any number: rules/layout.md does not list the command.
  * OK: the version is written. NONE: the image has no such command, and the version is 0. */
 uint32_t kesvuot_find_source_version(const void *file, size_t size, const struct kesvuot_image *image,
                                      uint64_t *version);

@@ -171,8 +171,8 @@ func (image *Image) At(address uint64) Source {
 }
 
 // Linkedit returns the data of the first linkedit_data_command with this cmd, such as LC_CODE_SIGNATURE (0x1d): all
-// datasize bytes from dataoff on. It is not ok if the image has no such command, or RULES.md does not list cmd as a
-// linkedit_data_command (for example LC_ATOM_INFO, 0x36). Each call rescans the load commands.
+// datasize bytes from dataoff on. It is not ok if the image has no such command, or rules/layout.md does not list cmd
+// as a linkedit_data_command (for example LC_ATOM_INFO, 0x36). Each call rescans the load commands.
 func (image *Image) Linkedit(cmd uint32) (data []byte, ok bool) {
 	return readLinkedit(image, cmd)
 }

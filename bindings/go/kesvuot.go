@@ -12,8 +12,8 @@
 //
 // The verdict and all parts come from libkesvuot, whose calls are proved. The bytes of each part of an accepted file
 // lie in the bytes that were passed: test no part. They are slices of those bytes, and nothing is copied.
-// Numbers that RULES.md lists as not judged, and the fields of commands that it does not list, are whatever the file
-// says. Names and fields are those of <mach-o/loader.h> and <mach-o/nlist.h>. A name contains no zero byte.
+// Numbers that rules/layout.md lists as not judged, and the fields of commands that it does not list, are whatever the
+// file says. Names and fields are those of <mach-o/loader.h> and <mach-o/nlist.h>. A name contains no zero byte.
 //
 // The bytes must not change while a call runs, or the process may crash: no goroutine may write to them, and a file may
 // be mapped only if nobody else can write to it or truncate it. If they change after the verdict, every call is still
@@ -48,26 +48,27 @@ type Profile uint32
 // also accepted by each profile before it.
 const (
 	// registry: profiles
-	// Layout: a loader that follows the headers and checks no bounds reads only bytes of the slice. RULES.md explains the
-	// rules.
+	// Layout: a loader that follows the headers and checks no bounds reads only bytes of the slice. rules/layout.md
+	// explains the rules.
 	Layout Profile = 1
 	// Strict: every nonzero byte is accounted for, and no byte belongs to two elements, such as the headers, a section or
-	// a table. RULES.md explains the rules.
+	// a table. rules/strict.md explains the rules.
 	Strict Profile = 2
 	// Linked: the rules judge where the linked data of an image lies; what the opcodes of LC_DYLD_INFO and
 	// LC_DYLD_INFO_ONLY, the table of LC_DYLD_CHAINED_FIXUPS and the chains of pointers in the pages ask a dynamic loader
 	// for; what the image exports; where functions start and data is in code; how a code signature is built; what symbols
-	// and relocations refer to; where threads begin; and what all other commands of loader.h hold. LINKED.md explains the
-	// rules.
+	// and relocations refer to; where threads begin; and what all other commands of loader.h hold. rules/linked.md
+	// explains the rules.
 	Linked Profile = 3
 	// Sealed: each image has a code signature; each code directory has the hashes of all bytes before the signature and of
 	// the blobs in special slots; and each nonzero byte from the signature on is in the signature's header, its index or a
-	// blob. The profile does not say who signed, and it reads nothing outside of the file. SEALED.md explains the rules.
+	// blob. The profile does not say who signed, and it reads nothing outside of the file. rules/sealed.md explains the
+	// rules.
 	Sealed Profile = 4
 	// registry: end
 )
 
-// A Rule is the name of a rule, such as "section-file". RULES.md, LINKED.md and SEALED.md explain each rule under its
+// A Rule is the name of a rule, such as "section-file". The pages of docs/rules explain each rule under its
 // name.
 type Rule string
 

@@ -557,7 +557,7 @@ func TestSectionsOfSymbols(t *testing.T) {
 	same(t, "the sections", found, wanted)
 }
 
-// An executable of commands that RULES.md does not list, and one of them is too short.
+// An executable of commands that rules/layout.md does not list, and one of them is too short.
 func TestVersions(t *testing.T) {
 	image := verified(t, words(0xfeedfacf, 0x01000007, 3, 2, 6, 16+16+8+16+16+8, 0, 0,
 		0x24, 16, 0xa0e00, 0xa0f00, 0x30, 16, 0x20100, 0x30000, 0x25, 8, 0x2f, 16, 9<<16, 10<<16,

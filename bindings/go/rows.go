@@ -135,7 +135,8 @@ type Command struct {
 	Cmd   uint32
 }
 
-// Commands returns all load commands. In a command that RULES.md does not list, all fields past cmdsize are unchecked.
+// Commands returns all load commands. In a command that rules/layout.md does not list, all fields past cmdsize are
+// unchecked.
 func (image *Image) Commands() []Command {
 	rows := readTable[commandRow](image, commandTable, image.numbers.command_count)
 	commands := make([]Command, len(rows))

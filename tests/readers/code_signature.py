@@ -1,4 +1,4 @@
-"""Reads the code signature of an image by cs_blobs.h, of which docs/LINKED.md has the fields. All numbers are
+"""Reads the code signature of an image by cs_blobs.h, of which sealed.md has the fields. All numbers are
 big-endian. It judges nothing. What it finds is compared with what the library gives, and with the lines of code
 directories that `macho-verify sealed` prints after the entry of each image. In tests/ these lines are printed by
 

@@ -1,4 +1,4 @@
-"""The plain dyld of docs/LINKED.md, under watch: it follows the opcodes and the chains of an image, checks nothing, and
+"""The plain dyld of linked.md, under watch: it follows the opcodes and the chains of an image, checks nothing, and
 really writes. Then it goes to each function and to the data in code, as tools do.
 
 Its memory is a copy of the file bytes of the mapped segments, with zeros after them, and with other bytes where a

@@ -7,7 +7,7 @@ version, a hash or a page that is not known, blobs that share bytes, a signature
 hash or a hash without a page, and bytes before the signature that no directory has hashes of. So do a library, a symbol
 or a section that is not there, an address of a symbol that no segment has, a relocation of a loader that is not of a
 pointer, a thread without a start or with two, a second thread or routine, one that begins where no code is, and a
-command for another kind of image. So it ends on all files, and on one that breaks the rules of docs/LINKED.md it says
+command for another kind of image. So it ends on all files, and on one that breaks the rules of linked.md it says
 how.
 
 It reads the superblob, its index and all blobs. In each code directory it reads the fields of its version, the
@@ -17,7 +17,7 @@ ask.
 `read_seal` reads signatures alone, and asks that: it compares each page and each blob of a special slot with its hash
 in each directory. A hash that is another, or that is not there, raises `Breach`, and so do a byte that is not in
 exactly one page, a byte of the signature or past it that is not zero and in no blob, two directories of one slot, and
-an image without a signature. So it says how a file breaks the rules of docs/SEALED.md.
+an image without a signature. So it says how a file breaks the rules of sealed.md.
 
 From tests/reference/oracle.py it takes the commands, segments and sections of an image, and nothing that decodes what
 it reads here.

@@ -3,10 +3,10 @@
 there, both under watch. tests/dyld calls it, and says how.
 
 It judges the vectors of linked.txt by hand and by oracle.py --linked, and then files and mutants of their
-tables by the oracle alone. Each image that the oracle accepts is loaded, and the promise of docs/LINKED.md has to hold.
+tables by the oracle alone. Each image that the oracle accepts is loaded, and the promise of linked.md has to hold.
 With --sealed the vectors are those of sealed.txt, the mutants those of seal_mutants.py, and the promise is that of
-docs/SEALED.md: each signature is read, and each hash is compared. Nothing else is refused there: on each file that
-breaks a rule of docs/SEALED.md alone, the reader has to find what is wrong. Mutant N of a seed is always the same. For
+sealed.md: each signature is read, and each hash is compared. Nothing else is refused there: on each file that
+breaks a rule of sealed.md alone, the reader has to find what is wrong. Mutant N of a seed is always the same. For
 each case it prints a line of three texts with tabs between them: the case, what was found, and what is wanted.
 """
 

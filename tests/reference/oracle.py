@@ -1,8 +1,8 @@
 #!/usr/bin/env python3
-"""A second verifier of the layout of Mach-O files. It was written from docs/RULES.md, and from docs/COMMAND.md for what
-is printed. It reads the filetypes and the listed commands in the tables of docs/RULES.md. Nothing was taken from the
-sources of the first one. tests/oracle compares the two. It also judges the rules of docs/LINKED.md and docs/SEALED.md,
-as macho-verify does; tests/dyld loads what it accepts.
+"""A second verifier of the layout of Mach-O files. It was written from docs/rules, and from docs/COMMAND.md for what is
+printed. It reads the filetypes and the listed commands in the tables of layout.md there. Nothing was taken from the
+sources of the first one. tests/oracle compares the two. It also judges the rules of the other profiles, as
+macho-verify does; tests/dyld loads what it accepts.
 
     oracle.py FILE                        prints what `macho-check check FILE` prints, and ends with its status
     oracle.py where FILE SLICE ADDRESS    the same for `macho-check where FILE SLICE ADDRESS`
@@ -10,7 +10,7 @@ as macho-verify does; tests/dyld loads what it accepts.
     oracle.py --linked FILE               the same for `macho-verify linked FILE`
     oracle.py --sealed FILE               the same for `macho-verify sealed FILE`
 
-It is written to be read beside docs/RULES.md, and has the same order. A rule is a function with its name. It yields
+It is written to be read beside docs/rules, and has the same order. A rule is a function with its name. It yields
 each place at which the rule is broken. `first_broken` takes the rules one after the other, and of the first one that
 is broken it takes the least place. A rule may take for granted that all rules before it are unbroken. All numbers are
 whole numbers without a limit, so no sum wraps. Offsets and widths are in bytes.
@@ -237,10 +237,10 @@ CS_CDHASH_LEN = 20
 # The byte that Apple's linker fills the gaps of code with.
 NOP = b"\x90"
 
-def rows_of(row, page="RULES.md"):
-    """The cells of the rows of a page of docs/ that have this form."""
+def rows_of(row, profile="layout"):
+    """The cells of the rows that have this form, of the page with the rules of a profile."""
     top = os.path.join(os.path.dirname(os.path.realpath(__file__)), os.pardir, os.pardir)
-    with open(os.path.join(top, "docs", page), encoding="utf-8") as text:
+    with open(os.path.join(top, "docs", "rules", profile + ".md"), encoding="utf-8") as text:
         return re.findall(row, text.read(), re.MULTILINE)
 
 # The filetypes, by `filetype`: whether an image names itself, and the word of the layout.
@@ -268,14 +268,14 @@ BOUNDED_TABLES = {
 LINKED_TABLES = {
     COMMANDS[command][0]: [row[1:] for row in rows if "`%s`" % command in row[0]]
     for rows in [rows_of(r"^\| (`LC_\w+`(?:, `LC_\w+`)?) \| `(\w+)` \| `(\w+)` \| ([a-z ]+) \| ?(\w*) ?\|$",
-                         "LINKED.md")]
+                         "linked")]
     for command in re.findall(r"LC_\w+", " ".join(row[0] for row in rows))
 }
 
 # The opcodes of the rebase stream and those of the others, by their bytes: the name, and the operands.
 REBASE_OPCODES, BIND_OPCODES = [
     {int(byte, 16): (opcode, operands.replace(",", "").split())
-     for opcode, byte, operands in rows_of(r"^\| `(%s_OPCODE_\w+)` \| (0x\w0) \|([a-z, ]*)\|" % family, "LINKED.md")}
+     for opcode, byte, operands in rows_of(r"^\| `(%s_OPCODE_\w+)` \| (0x\w0) \|([a-z, ]*)\|" % family, "linked")}
     for family in ("REBASE", "BIND")
 ]
 
@@ -285,12 +285,12 @@ REBASE_OPCODES, BIND_OPCODES = [
 IMPORT_FORMATS = {
     int(number): (int(size), (int(ordinal), int(last_of_ordinal)), (int(offset), int(last_of_offset)))
     for number, size, ordinal, last_of_ordinal, offset, last_of_offset in rows_of(
-        r"^\| (\d+) \| `dyld_chained_import\w*` \| (\d+) \| (\d+) to (\d+) \| (\d+) to (\d+) \|", "LINKED.md")
+        r"^\| (\d+) \| `dyld_chained_import\w*` \| (\d+) \| (\d+) to (\d+) \| (\d+) to (\d+) \|", "linked")
 }
 POINTER_FORMATS = {
     int(number): ((int(following), int(last_of_next)), int(step), int(bind), (int(ordinal), int(last_of_ordinal)))
     for number, following, last_of_next, step, bind, ordinal, last_of_ordinal in rows_of(
-        r"^\| (\d+) \| `DYLD_CHAINED_PTR_\w+` \| (\d+) to (\d+) \| (\d+) \| (\d+) \| (\d+) to (\d+) \|$", "LINKED.md")
+        r"^\| (\d+) \| `DYLD_CHAINED_PTR_\w+` \| (\d+) to (\d+) \| (\d+) \| (\d+) \| (\d+) to (\d+) \|$", "linked")
 }
 
 # The data of the commands that have some but are not listed: the structure, the start, the count, the bytes per entry.
@@ -853,7 +853,7 @@ def unclaimed_byte(image):
                 break
             at += 1
 
-# The linked profile of docs/LINKED.md. Its rules may take for granted that all above are unbroken as well.
+# The linked profile of docs/rules/linked.md. Its rules may take for granted that all above are unbroken as well.
 
 def is_writable(segment):
     return is_mapped(segment) and segment.initprot & VM_PROT_WRITE != 0
@@ -1801,7 +1801,7 @@ def command_content(image):
         elif command.cmd in HELD_COMMANDS and not has_good_content(image, command):
             yield command.place
 
-# The sealed profile of docs/SEALED.md. Its rules may take for granted that all above are unbroken as well.
+# The sealed profile of docs/rules/sealed.md. Its rules may take for granted that all above are unbroken as well.
 
 def signature_missing(image):
     """There is no signature with a directory of slot 0."""

@@ -1,6 +1,5 @@
-"""Prints the tables of docs/RULES.md for bench/floor.c and tests/fuzz.c: the rules of each profile, with those of
-docs/LINKED.md and docs/SEALED.md, the filetypes that are judged, the listed commands and their bounded tables.
-oracle.py reads all but the rules there. In tests/:
+"""Prints the tables of docs/rules for bench/floor.c and tests/fuzz.c: the rules of each profile, the filetypes that
+are judged, the listed commands and their bounded tables. oracle.py reads all but the rules there. In tests/:
 
     python3 -m reference.rules_tables >rules_tables.h
 
@@ -24,13 +23,9 @@ def macro(name: str, rows: Iterable[str]) -> str:
 
 
 def rules_of_profiles() -> dict[str, list[str]]:
-    """The names of the rules. The strict profile has those of RULES.md that stand after its heading."""
-    headings = oracle.rows_of("^##+ (The strict profile|`[a-z-]+`)$")
-    first = headings.index("The strict profile")
-    pages = [oracle.rows_of("^### (`[a-z-]+`)$", page) for page in ("LINKED.md", "SEALED.md")]
-    names = headings[:first], headings[first + 1:], *pages
-    return {profile: [name.strip("`") for name in of_profile]
-            for profile, of_profile in zip(("LAYOUT", "STRICT", "LINKED", "SEALED"), names)}
+    """The names of the rules, each a heading of the page of its profile."""
+    return {profile.upper(): oracle.rows_of("^### `([a-z-]+)`$", profile)
+            for profile in ("layout", "strict", "linked", "sealed")}
 
 
 def rule_rows(names: Iterable[str]) -> Iterator[str]:
@@ -53,7 +48,7 @@ def command_rows() -> Iterator[str]:
 def header() -> str:
     constants = [f"#define {command} {cmd:#x}u\n" for command, (cmd, *_) in oracle.COMMANDS.items()]
     return "\n".join((
-        "// Made by tests/reference/rules_tables.py of docs/RULES.md, docs/LINKED.md and docs/SEALED.md.\n",
+        "// Made by tests/reference/rules_tables.py of docs/rules.\n",
         "".join(constants),
         *(macro(f"{profile}_RULES", rule_rows(names)) for profile, names in rules_of_profiles().items()),
         "#define RULES(X) LAYOUT_RULES(X) STRICT_RULES(X) LINKED_RULES(X)\n",

@@ -505,7 +505,7 @@ static void try_data(void) {
     CHECK(find_address(&image, UINT64_MAX, &data) == KESVUOT_NONE && is_at(data, 0, 0));
 }
 
-// An image whose tables have different places and sizes, with relocations, and with commands that name versions. RULES.md
+// An image whose tables have different places and sizes, with relocations, and with commands that name versions. layout.md
 // does not list LC_SOURCE_VERSION (0x2a) and LC_VERSION_MIN_.. (0x24, 0x25, 0x2f, 0x30): one of each is too short.
 static const uint32_t TABLES[] = {
     0xfeedfacf, 0x0100000c, 0, 2, 15, 512, 0, 0,

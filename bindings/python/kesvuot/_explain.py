@@ -41,7 +41,7 @@ JUDGED_TABLES = {"symbols", "strings", "indirect symbols"}
 JUDGED_BY_LINKED = {"rebase opcodes", "bind opcodes", "weak bind opcodes", "lazy bind opcodes", "chained fixups",
                     "export trie", "exports trie", "function starts", "data in code", "code signature",
                     "external relocations", "local relocations"}
-# The commands of no rule of RULES.md that it judges.
+# The commands of no rule of rules/layout.md that it judges.
 COMMANDS_OF_LINKED = {LC_THREAD, LC_UNIXTHREAD, *HELD}
 
 Rows = List[Tuple[str, ...]]

@@ -31,7 +31,7 @@ ARCHITECTURES = {
 
 class Refused(Exception):
     """The file breaks a rule. `rule` is the name of the first broken one, and `place` the offset in the file where it
-    is broken. docs/RULES.md, docs/LINKED.md and docs/SEALED.md explain each rule under its name."""
+    is broken. The pages of docs/rules explain each rule under its name."""
 
     def __init__(self, rule: str, place: int) -> None:
         super().__init__(rule, place)
@@ -380,8 +380,8 @@ class Image(Slice):
 
     def linkedit(self, cmd: SupportsIndex) -> Optional[memoryview]:
         """The data of the first linkedit_data_command with this `cmd`, such as LC_CODE_SIGNATURE (0x1d). None if there
-        is no such command, or RULES.md does not list `cmd` as a linkedit_data_command (for example LC_ATOM_INFO, 0x36).
-        Each call rescans the load commands."""
+        is no such command, or rules/layout.md does not list `cmd` as a linkedit_data_command (for example LC_ATOM_INFO,
+        0x36). Each call rescans the load commands."""
         number = operator.index(cmd)
         if not 0 <= number < 1 << 32:
             return None
@@ -487,12 +487,12 @@ def library_version() -> Tuple[int, int, int]:
 def verify(data: Data, profile: str = DEFAULT) -> File:
     """Judges a file by the rules of a profile, after all rules of the profiles before it:
 
-    "layout": where the parts that the headers describe lie (docs/RULES.md)
-    "strict": bytes that no header accounts for, or that two parts share (docs/RULES.md)
+    "layout": where the parts that the headers describe lie (docs/rules/layout.md)
+    "strict": bytes that no header accounts for, or that two parts share (docs/rules/layout.md)
     "linked": fixups, exports, functions, data in code, the structure of the code signature, symbols, relocations,
-    threads, and what all other commands hold (docs/LINKED.md)
+    threads, and what all other commands hold (docs/rules/linked.md)
     "sealed": whether each image has a code signature, whose hashes are those of the bytes, but not who signed
-    (docs/SEALED.md)
+    (docs/rules/sealed.md)
 
     Raises Refused if the file breaks a rule, and ValueError if no profile has the name. MemoryError means that there is
     no verdict."""

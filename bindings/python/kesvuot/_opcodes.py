@@ -1,5 +1,5 @@
 """What the opcodes of LC_DYLD_INFO and LC_DYLD_INFO_ONLY ask a dynamic loader for, slot by slot. They are those of
-<mach-o/loader.h>, and are followed as docs/LINKED.md says. Nothing is trusted: a stream is read once, and has no more
+<mach-o/loader.h>, and are followed as linked.md says. Nothing is trusted: a stream is read once, and has no more
 slots than the file has room for."""
 
 from __future__ import annotations

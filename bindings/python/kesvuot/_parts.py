@@ -34,8 +34,8 @@ NAMED = {*LIBRARIES, LC_LOAD_DYLINKER, LC_ID_DYLINKER, LC_RPATH, LC_DYLD_ENVIRON
 Range = Tuple[int, int]
 
 class TableForm(NamedTuple):
-    """A table that a command names, as in RULES.md: a name, the fields that have the offset and the count, and the
-    bytes of an entry."""
+    """A table that a command names, as in rules/layout.md: a name, the fields that have the offset and the count, and
+    the bytes of an entry."""
 
     name: str
     start: str

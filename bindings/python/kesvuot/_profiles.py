@@ -16,12 +16,12 @@ class Profile(NamedTuple):
 
 PROFILES: Dict[str, Profile] = {
     # registry: profiles
-    "layout": Profile(1, "where the parts that the headers describe lie", "RULES.md#not-judged"),
-    "strict": Profile(2, "bytes that no header accounts for, or that two parts share", "RULES.md#the-strict-profile"),
+    "layout": Profile(1, "where the parts that the headers describe lie", "rules/layout.md#not-judged"),
+    "strict": Profile(2, "bytes that no header accounts for, or that two parts share", "rules/strict.md#not-judged"),
     "linked": Profile(3, "where linked data lies, and what it and the other commands say",
-                      "LINKED.md#what-is-still-open"),
+                      "rules/linked.md#not-judged"),
     "sealed": Profile(4, "whether each image has a code signature, whose hashes are those of the bytes",
-                      "SEALED.md#what-it-does-not-say"),
+                      "rules/sealed.md#what-it-does-not-say"),
     # registry: end
 }
 DEFAULT = "layout"

@@ -70,7 +70,7 @@ STRUCTURES: Dict[str, Tuple[Field, ...]] = {name: _fields(words) for name, words
 BIG_ENDIAN = frozenset(("fat_header", "fat_arch", "fat_arch_64", "CS_SuperBlob", "CS_BlobIndex", "CS_GenericBlob",
                         "CS_CodeDirectory"))
 
-# The structure of each command that docs/RULES.md lists, and of those others that have data.
+# The structure of each command that docs/rules/layout.md lists, and of those others that have data.
 LISTED: Dict[int, str] = {
     # registry: listed
     0x2: "symtab_command", 0xb: "dysymtab_command", 0xc: "dylib_command", 0xd: "dylib_command", 0xe: "dylinker_command",

@@ -15,7 +15,7 @@
 //!     KESVUOT_LIB_DIR=../../build/lib cargo run --example symbolize FILE ADDRESS..
 //!
 //! The file may be from a stranger. The library judges it once. After that no offset, count or
-//! index of the file is tested: a comment says which rule of docs/RULES.md makes this safe.
+//! index of the file is tested: a comment says which rule of docs/rules makes this safe.
 
 use std::error::Error;
 use std::ffi::OsString;

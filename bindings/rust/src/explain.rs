@@ -62,8 +62,8 @@ kinds! {
     SectionMemory = 14,
     /// Its relocations.
     Relocations = 15,
-    /// A table that a command bounds. The index counts its tables in the order of "Bounded tables" in `docs/RULES.md`:
-    /// of `LC_SYMTAB` 0 the symbols, 1 the strings.
+    /// A table that a command bounds. The index counts its tables in the order of "Bounded tables" in
+    /// `docs/rules/layout.md`: of `LC_SYMTAB` 0 the symbols, 1 the strings.
     Table = 16,
     /// Indices of symbols: 0 the local, 1 the external, 2 the undefined ones.
     Group = 17,

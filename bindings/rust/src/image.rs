@@ -460,7 +460,7 @@ impl<'a> Image<'a> {
 
     /// The data of the first `linkedit_data_command` with this `cmd`, such as `LC_CODE_SIGNATURE`
     /// (0x1d): all `datasize` bytes from `dataoff` on. `None` if the image has no such command, or
-    /// RULES.md does not list `cmd` as a `linkedit_data_command` (for example `LC_ATOM_INFO`,
+    /// rules/layout.md does not list `cmd` as a `linkedit_data_command` (for example `LC_ATOM_INFO`,
     /// 0x36). Each call rescans the load commands.
     #[must_use]
     pub fn linkedit(&self, cmd: u32) -> Option<&'a [u8]> {

@@ -2,7 +2,7 @@
 //!
 //! The verdict and all parts come from `libkesvuot`, whose calls are proved. After [`verify`] has
 //! accepted a file, the bytes of each part that an [`Image`] returns lie in the bytes that you
-//! passed: test no part. Nothing is copied. Numbers that RULES.md lists as not judged, and the fields
+//! passed: test no part. Nothing is copied. Numbers that docs/rules lists as not judged, and the fields
 //! of commands that it does not list, are whatever the file says.
 //!
 //! ```

@@ -420,7 +420,7 @@ tables! {
 
 /// A load command. (`load_command`)
 ///
-/// In a command that `docs/RULES.md` does not list, all fields past `cmdsize` are unchecked.
+/// In a command that `docs/rules/layout.md` does not list, all fields past `cmdsize` are unchecked.
 #[derive(Clone, Copy, PartialEq, Eq)]
 #[non_exhaustive]
 pub struct Command<'a> {

@@ -22,22 +22,22 @@ use crate::ffi;
 #[non_exhaustive]
 pub enum Profile {
     // registry: profiles
-    /// A loader that follows the headers and checks no bounds reads only bytes of the slice. `docs/RULES.md` explains
-    /// the rules.
+    /// A loader that follows the headers and checks no bounds reads only bytes of the slice. `docs/rules/layout.md`
+    /// explains the rules.
     Layout = 1,
     /// Every nonzero byte is accounted for, and no byte belongs to two elements, such as the headers, a section or a
-    /// table. `docs/RULES.md` explains the rules.
+    /// table. `docs/rules/strict.md` explains the rules.
     Strict = 2,
     /// The rules judge where the linked data of an image lies; what the opcodes of `LC_DYLD_INFO` and
     /// `LC_DYLD_INFO_ONLY`, the table of `LC_DYLD_CHAINED_FIXUPS` and the chains of pointers in the pages ask a dynamic
     /// loader for; what the image exports; where functions start and data is in code; how a code signature is built;
     /// what symbols and relocations refer to; where threads begin; and what all other commands of `loader.h` hold.
-    /// `docs/LINKED.md` explains the rules.
+    /// `docs/rules/linked.md` explains the rules.
     Linked = 3,
     /// Each image has a code signature; each code directory has the hashes of all bytes before the signature and of the
     /// blobs in special slots; and each nonzero byte from the signature on is in the signature's header, its index or a
-    /// blob. The profile does not say who signed, and it reads nothing outside of the file. `docs/SEALED.md` explains
-    /// the rules.
+    /// blob. The profile does not say who signed, and it reads nothing outside of the file. `docs/rules/sealed.md`
+    /// explains the rules.
     Sealed = 4,
     // registry: end
 }

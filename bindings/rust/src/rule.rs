@@ -9,8 +9,8 @@ macro_rules! rules {
     ($($(#[$doc:meta])* $name:ident = $number:literal,)*) => {
         /// A rule of a [`Profile`]. The variants are in the order of judgment, profile after profile.
         ///
-        /// `docs/RULES.md` says when each is broken, what usually breaks it, and what to do. For the
-        /// linked profile `docs/LINKED.md` does, and for the sealed one `docs/SEALED.md`.
+        /// The pages of `docs/rules` say when each is violated, what usually violates it, and what
+        /// to do.
         #[derive(Clone, Copy, Debug, PartialEq, Eq, PartialOrd, Ord, Hash)]
         #[non_exhaustive]
         pub enum Rule {
@@ -274,6 +274,7 @@ impl FromStr for Rule {
 #[cfg(test)]
 mod tests {
     use std::borrow::ToOwned;
+    use std::format;
     use std::fs;
     use std::path::Path;
     use std::string::{String, ToString};
@@ -281,20 +282,14 @@ mod tests {
 
     use super::*;
 
-    /// The rules that a document explains under their names, each with its profile: the given one, or strict after
-    /// a heading that says so.
-    fn explained(name: &str, mut profile: Profile) -> Vec<(String, Option<Profile>)> {
-        let folder = Path::new(env!("CARGO_MANIFEST_DIR")).join("../../docs");
-        let mut found = Vec::new();
-        for line in fs::read_to_string(folder.join(name)).unwrap().lines() {
-            let rule = line.strip_prefix("### `");
-            if line == "## The strict profile" {
-                profile = Profile::Strict;
-            } else if let Some(rule) = rule.and_then(|rule| rule.strip_suffix('`')) {
-                found.push((rule.to_owned(), Some(profile)));
-            }
-        }
-        found
+    /// The rules that the page of a profile explains under their names, each with the profile.
+    fn explained(profile: Profile) -> Vec<(String, Option<Profile>)> {
+        let folder = Path::new(env!("CARGO_MANIFEST_DIR")).join("../../docs/rules");
+        let page = fs::read_to_string(folder.join(format!("{profile}.md"))).unwrap();
+        page.lines()
+            .filter_map(|line| line.strip_prefix("### `")?.strip_suffix('`'))
+            .map(|rule| (rule.to_owned(), Some(profile)))
+            .collect()
     }
 
     #[test]
@@ -303,12 +298,8 @@ mod tests {
         let found: Vec<_> = rules
             .map(|rule| (rule.name().to_owned(), rule.profile()))
             .collect();
-        let documents = [
-            explained("RULES.md", Profile::Layout),
-            explained("LINKED.md", Profile::Linked),
-            explained("SEALED.md", Profile::Sealed),
-        ];
-        assert_eq!(found, documents.concat());
+        let documents: Vec<_> = Profile::ALL.iter().flat_map(|&it| explained(it)).collect();
+        assert_eq!(found, documents);
     }
 
     #[test]

@@ -1,4 +1,4 @@
-//! The rule of the home of a table of linked data. (docs/LINKED.md)
+//! The rule of the home of a table of linked data. (docs/rules/linked.md)
 
 use crate::conflict::{Conflict, shared};
 use crate::part::NO_PART;

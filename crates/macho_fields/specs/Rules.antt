@@ -1,4 +1,4 @@
--- Where each rule is broken: the rule, and the place that is reported. docs/RULES.md says the same
+-- Where each rule is broken: the rule, and the place that is reported. docs/rules/layout.md says the same
 -- in words, and names the structures. A rule is judged where the rules before it are unbroken.
 use Rattle.std.specs.Prelude.{◌≡◌, ◌≢◌, ℕ, ◌+◌, ◌*◌, ◌<◌, ◌⊎◌, List, length, Option, None, IsSomeAnd, Any, All, Contains}
 use Rattle.macho_fields.specs.Universal.{IsUniversal, entry_count, entry_place, slices_of, table_end, slice_bytes, masked, IsImage, IsForeign, IsSliceOutside, IsSliceInTable, IsSliceMisaligned, OverlapsEarlierSlice, RepeatsEarlierArch}

@@ -1,5 +1,5 @@
 -- Where each linked rule is broken, by an image that breaks no other rule: the rule, and the place that
--- is reported. docs/LINKED.md says the same in words.
+-- is reported. docs/rules/linked.md says the same in words.
 use Rattle.std.specs.Prelude.{ℕ, List}
 use Rattle.macho_fields.specs.First.{NoneIsBroken, IsFirstOfAll}
 use Rattle.macho_fields.specs.declared.rule.Break.{Break}

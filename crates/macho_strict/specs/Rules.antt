@@ -1,5 +1,5 @@
 -- Where each strict rule is broken, by a file that breaks no other rule: the rule, and the place that
--- is reported. docs/RULES.md says the same in words.
+-- is reported. docs/rules/strict.md says the same in words.
 use Rattle.std.specs.Prelude.{◌≡◌, ◌≢◌, ℕ, ◌+◌, ◌≤◌, ◌<◌, ◌⊎◌, List, length, slice_get, slice_index, Some, true, All, Any, Contains, bit_and}
 use Rattle.macho_spans.specs.Span.{Covers, Holds, Shares, end_of}
 use Rattle.macho_fields.specs.Command.{HasStructure, least_size, name_start}

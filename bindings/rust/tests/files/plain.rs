@@ -33,14 +33,17 @@ const LIBRARIES: [u32; 6] = [0xc, 0xd, 0x20, 0x8000_0018, 0x8000_001f, 0x8000_00
 const NAMED: [u32; 4] = [0xe, 0xf, 0x27, 0x8000_001c];
 /// Bit of the commands that a loader must know.
 const LC_REQ_DYLD: u32 = 0x8000_0000;
-const RULES: &str = include_str!(concat!(env!("CARGO_MANIFEST_DIR"), "/../../docs/RULES.md"));
+const RULES: &str = include_str!(concat!(
+    env!("CARGO_MANIFEST_DIR"),
+    "/../../docs/rules/layout.md"
+));
 
 thread_local! {
-    /// The commands that RULES.md lists as a `linkedit_data_command`.
+    /// The commands that `layout.md` lists as a `linkedit_data_command`.
     static LINKEDIT: Vec<u32> = listed("linkedit_data_command");
 }
 
-/// The listed commands of a structure, by the table of RULES.md: a name, `cmd` and the structure.
+/// The listed commands of a structure, by the table of `layout.md`: a name, `cmd` and the structure.
 fn listed(structure: &str) -> Vec<u32> {
     let rows = RULES.lines().filter_map(|line| {
         let (_, rest) = line.strip_prefix("| `LC_")?.split_once("` | 0x")?;
