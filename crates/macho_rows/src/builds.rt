@@ -9,6 +9,7 @@ use crate::cursor::KesvuotCursor;
 use crate::load::{Load, Wanted, next_wanted, version_min_platform};
 use crate::table::Table;
 use macho_fields::header::loader::build_version_command::{MINOS, PLATFORM, SDK};
+use macho_fields::header::loader::version_min_command;
 use macho_fields::{Bytes, Order};
 
 /// A platform and its versions. (`build_version_command`, `version_min_command`)
@@ -51,8 +52,8 @@ fn row_of(image: Bytes, load: Load) -> KesvuotBuild
     match version_min_platform(load.cmd) {
         Some(platform) => KesvuotBuild {
             platform,
-            minos: image.read_u32(Order::Little, load.place + VERSION),
-            sdk: image.read_u32(Order::Little, load.place + VERSION_MIN_SDK),
+            minos: image.read_u32(Order::Little, load.place + version_min_command::VERSION),
+            sdk: image.read_u32(Order::Little, load.place + version_min_command::SDK),
             cmd: load.cmd,
         },
         None => KesvuotBuild {
@@ -63,8 +64,3 @@ fn row_of(image: Bytes, load: Load) -> KesvuotBuild
         },
     }
 }
-
-// The offsets of the fields in `version_min_command`.
-const VERSION: u64 = 8;
-
-const VERSION_MIN_SDK: u64 = 12;

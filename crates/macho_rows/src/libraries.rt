@@ -55,8 +55,8 @@ impl<'a> Table for Libraries<'a> {
     }
 }
 
-/// The row of a `dylib_command`.
-pub fn library_row(image: &Held, load: Load) -> KesvuotLibrary
+// The row of a `dylib_command`.
+pub(crate) fn library_row(image: &Held, load: Load) -> KesvuotLibrary
     requires load { IsLoad (bytes_of image.now.bytes) load }
     requires size { 24 ≤ load.size }
     ensures { result ≡ library_row image.now.place (bytes_of image.now.bytes) load.place }

@@ -14,38 +14,13 @@ use macho_fields::header::loader::mach_header_64::{NCMDS, SIZEOFCMDS};
 use macho_fields::header::loader::segment_command_64::NSECTS;
 use macho_fields::header::loader::{
     LC_BUILD_VERSION, LC_DYLD_INFO, LC_DYLD_INFO_ONLY, LC_DYSYMTAB, LC_ENCRYPTION_INFO_64,
-    LC_ID_DYLIB, LC_SEGMENT_64, LC_SYMTAB, LINKEDIT_DATA_COMMAND_SIZE, LOAD_COMMAND_SIZE,
-    MACH_HEADER_64_SIZE, SECTION_64_SIZE, SEGMENT_COMMAND_64_SIZE,
+    LC_ID_DYLIB, LC_SEGMENT_64, LC_SOURCE_VERSION, LC_SYMTAB, LC_VERSION_MIN_IPHONEOS,
+    LC_VERSION_MIN_MACOSX, LC_VERSION_MIN_TVOS, LC_VERSION_MIN_WATCHOS, LINKEDIT_DATA_COMMAND_SIZE,
+    LOAD_COMMAND_SIZE, MACH_HEADER_64_SIZE, PLATFORM_IOS, PLATFORM_MACOS, PLATFORM_TVOS,
+    PLATFORM_WATCHOS, SECTION_64_SIZE, SEGMENT_COMMAND_64_SIZE, SOURCE_VERSION_COMMAND_SIZE,
+    VERSION_MIN_COMMAND_SIZE,
 };
-use macho_fields::{Bytes, Order, names_library};
-
-// The load commands that are not judged, and are read if they hold their structure.
-const LC_VERSION_MIN_MACOSX: u32 = 0x24;
-
-const LC_VERSION_MIN_IPHONEOS: u32 = 0x25;
-
-const LC_SOURCE_VERSION: u32 = 0x2a;
-
-const LC_VERSION_MIN_TVOS: u32 = 0x2f;
-
-const LC_VERSION_MIN_WATCHOS: u32 = 0x30;
-
-// The sizes of the structures.
-const DYLIB_COMMAND_SIZE: u64 = 24;
-
-const BUILD_VERSION_COMMAND_SIZE: u64 = 24;
-
-const VERSION_MIN_COMMAND_SIZE: u64 = 16;
-
-const SOURCE_VERSION_COMMAND_SIZE: u64 = 16;
-
-const SYMTAB_COMMAND_SIZE: u64 = 24;
-
-const DYSYMTAB_COMMAND_SIZE: u64 = 80;
-
-const DYLD_INFO_COMMAND_SIZE: u64 = 48;
-
-const ENCRYPTION_INFO_COMMAND_64_SIZE: u64 = 24;
+use macho_fields::{Bytes, Order, Structure, names_library};
 
 /// A load command: it lies among the commands of the image. (`load_command`)
 #[derive(Clone, Copy)]
@@ -159,23 +134,26 @@ fn is_wanted(image: Bytes, load: Load, wanted: Wanted) -> bool
     match wanted {
         Wanted::All => true,
         Wanted::Segments => is_segment(image, load),
-        Wanted::Libraries => loads_library(load.cmd) && load.size >= DYLIB_COMMAND_SIZE,
+        Wanted::Libraries => loads_library(load.cmd) && load.size >= Structure::DylibCommand.size(),
         Wanted::Builds => is_build(image, load),
         Wanted::SourceVersions => {
             load.cmd == LC_SOURCE_VERSION && load.size >= SOURCE_VERSION_COMMAND_SIZE
         }
-        Wanted::Symtabs => load.cmd == LC_SYMTAB && load.size >= SYMTAB_COMMAND_SIZE,
-        Wanted::Dysymtabs => load.cmd == LC_DYSYMTAB && load.size >= DYSYMTAB_COMMAND_SIZE,
-        Wanted::DyldInfos => is_dyld_info(load.cmd) && load.size >= DYLD_INFO_COMMAND_SIZE,
+        Wanted::Symtabs => load.cmd == LC_SYMTAB && load.size >= Structure::SymtabCommand.size(),
+        Wanted::Dysymtabs => load.cmd == LC_DYSYMTAB
+            && load.size >= Structure::DysymtabCommand.size(),
+        Wanted::DyldInfos => is_dyld_info(load.cmd)
+            && load.size >= Structure::DyldInfoCommand.size(),
         Wanted::EncryptionInfos => {
-            load.cmd == LC_ENCRYPTION_INFO_64 && load.size >= ENCRYPTION_INFO_COMMAND_64_SIZE
+            load.cmd == LC_ENCRYPTION_INFO_64
+                && load.size >= Structure::EncryptionInfoCommand64.size()
         }
         Wanted::LinkeditData(cmd) => load.cmd == cmd && load.size >= LINKEDIT_DATA_COMMAND_SIZE,
     }
 }
 
-/// Whether a load command is a segment that holds its sections.
-pub fn is_segment(image: Bytes, load: Load) -> bool
+// Whether a load command is a segment that holds its sections.
+pub(crate) fn is_segment(image: Bytes, load: Load) -> bool
     requires { IsLoad (bytes_of image) load }
     ensures { result ≡ is_segment (bytes_of image.entry) load.place }
 {
@@ -200,7 +178,7 @@ fn is_build(image: Bytes, load: Load) -> bool
 {
     match version_min_platform(load.cmd) {
         Some(_) => load.size >= VERSION_MIN_COMMAND_SIZE,
-        None => load.cmd == LC_BUILD_VERSION && load.size >= BUILD_VERSION_COMMAND_SIZE,
+        None => load.cmd == LC_BUILD_VERSION && load.size >= Structure::BuildVersionCommand.size(),
     }
 }
 
@@ -223,12 +201,3 @@ fn is_dyld_info(cmd: u32) -> bool
 {
     cmd == LC_DYLD_INFO || cmd == LC_DYLD_INFO_ONLY
 }
-
-// The platforms of `version_min_command`.
-const PLATFORM_MACOS: u32 = 1;
-
-const PLATFORM_IOS: u32 = 2;
-
-const PLATFORM_TVOS: u32 = 3;
-
-const PLATFORM_WATCHOS: u32 = 4;

@@ -77,9 +77,9 @@ impl<'a> Held<'a> {
         }
     }
 
-    /// Where the name in the 16 bytes from `start` on lies in the file. It ends before the first zero
-    /// byte, where there is one.
-    pub fn short_name(&self, start: u64) -> KesvuotSpan
+    // Where the name in the 16 bytes from `start` on lies in the file. It ends before the first zero
+    // byte, where there is one.
+    pub(crate) fn short_name(&self, start: u64) -> KesvuotSpan
         requires { start + 16 ≤ length (bytes_of self.now.bytes) }
         ensures { result ≡ span_of (self.now.place + start) (short_name (bytes_of self.now.bytes) start) }
     {
