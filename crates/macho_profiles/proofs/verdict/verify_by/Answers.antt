@@ -10,3 +10,9 @@ pub returns-in-Strict-clause-accepted : goal.returns-in-Strict-clause-accepted
 returns-in-Strict-clause-accepted c =
     let kept = c.verify_strictly.ensures in
     rw c.in-Strict.is (strict_kept c.args.file.now _ (layout_kept c.args.file.now _ kept.accepted kept.sound) kept.strictly kept.accounted)
+
+pub returns-in-Linked-clause-accepted : goal.returns-in-Linked-clause-accepted
+returns-in-Linked-clause-accepted c = rw c.in-Linked.is c.verify_linked.ensures.accepted
+
+pub returns-in-Sealed-clause-accepted : goal.returns-in-Sealed-clause-accepted
+returns-in-Sealed-clause-accepted c = rw c.in-Sealed.is c.verify_sealed.ensures.accepted

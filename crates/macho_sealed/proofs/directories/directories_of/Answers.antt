@@ -1,4 +1,4 @@
-use Rattle.std.proofs.Common.{◌≡◌, ◌+◌, ◌<◌, List, ℕ, sym, ap, ◌∙◌, subst}
+use Rattle.std.proofs.Common.{◌≡◌, ◌+◌, List, ℕ, sym, ap, ◌∙◌, subst}
 use Rattle.std.proofs.Math.ListN.{set}
 use Rattle.macho_fields.specs.Bytes.{bytes_of}
 use Rattle.macho_sealed.specs.Directories.{IsDirectoryOf, AreDirectories}
@@ -6,7 +6,7 @@ use Rattle.macho_sealed.specs.Slots.{slot_number}
 use Rattle.macho_sealed.proofs.Blobs.{counted}
 use Rattle.macho_sealed.proofs.PlacedDirectories.{none_more_placed, one_more_placed}
 use Rattle.macho_signature.specs.Signature.{bytes_at}
-use Rattle.macho_signature.specs.Superblobs.{blob_at, blob_bytes, blob_count, is_directory_slot}
+use Rattle.macho_signature.specs.Superblobs.{blob_at, blob_bytes, is_directory_slot}
 use Rattle.macho_signature.specs.declared.superblob.Blob.{Blob}
 use Rattle.macho_sealed.proofs.directories.directories_of.Goals as goal
 use Rattle.macho_sealed.proofs.directories.directories_of.Goals.{then-is_directory, else-is_directory}

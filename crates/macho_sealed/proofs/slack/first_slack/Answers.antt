@@ -1,9 +1,9 @@
-use Rattle.std.proofs.Common.{◌≡◌, ◌+◌, ◌<◌, List, ℕ, Option, refl, sym, ap, ◌∙◌, subst, arith}
+use Rattle.std.proofs.Common.{◌≡◌, ◌+◌, refl, sym, ap, ◌∙◌, subst, arith}
 use Rattle.macho_fields.specs.Bytes.{bytes_of}
 use Rattle.macho_fields.specs.FirstPlace.{IsLeastPlace}
 use Rattle.macho_sealed.proofs.Blobs.{begins_past, counted, counted_all, end_inside}
 use Rattle.macho_sealed.proofs.Slacks.{NoneBefore, none_in_index, gap_slack, none_past_blob, last_slack}
-use Rattle.macho_signature.specs.Superblobs.{blob_at, blob_count, blob_end, entry_offset, superblob_at, least_offset}
+use Rattle.macho_signature.specs.Superblobs.{blob_at, blob_count, blob_end, entry_offset, least_offset}
 use Rattle.macho_signature.specs.declared.superblob.Blob.{Blob}
 use Rattle.macho_signature.specs.declared.superblob.Superblob.{Superblob}
 use Rattle.macho_signature.proofs.Surveys.{least_next}

@@ -1,4 +1,4 @@
-use Rattle.std.proofs.Common.{◌≡◌, ◌<◌, List, ℕ, Some, true, sym, ap, ◌∙◌, subst}
+use Rattle.std.proofs.Common.{◌≡◌, List, ℕ, Some, true, sym, ap, ◌∙◌, subst}
 use Rattle.std.proofs.lemmas.Bool.{false≢true}
 use Rattle.macho_fields.specs.Bytes.{bytes_of}
 use Rattle.macho_fields.specs.FirstPlace.{IsLeastPlace}
@@ -8,7 +8,7 @@ use Rattle.macho_sealed.proofs.Blobs.{counted}
 use Rattle.macho_sealed.proofs.Firsts.{none_more}
 use Rattle.macho_sealed.proofs.SharedSpecials.{LackSpecial, none_lacks_special, first_lack_special}
 use Rattle.macho_signature.specs.Signature.{bytes_at}
-use Rattle.macho_signature.specs.Superblobs.{blob_at, blob_bytes, blob_count}
+use Rattle.macho_signature.specs.Superblobs.{blob_at, blob_bytes}
 use Rattle.macho_signature.specs.declared.superblob.Blob.{Blob}
 use Rattle.macho_sealed.proofs.specials.first_other_special.Goals as goal
 use Rattle.macho_sealed.proofs.specials.first_other_special.Goals.{else-is_special_slot-via-then-is_special_slot+else-not-have_special, else-is_special_slot-via-else-is_special_slot}
