@@ -3346,7 +3346,7 @@ static void judge_universal_linked(const struct file *file, const struct univers
     }
 }
 
-// The report, as docs/COMMAND.md has its lines
+// The report, as docs/reference/commands.md has its lines
 
 // The most bytes of a line, but for the name of a library.
 #define LINE_SIZE ((size_t)512)

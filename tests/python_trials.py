@@ -669,7 +669,7 @@ def compare_all_views(report, all_kinds, mixed):
 
 
 def plain_lines(answer_object):
-    """The lines of the layout, in the order of docs/COMMAND.md."""
+    """The lines of the layout, in the order of docs/reference/commands.md."""
     yield f"accepted, slices {len(answer_object['slices'])}"
     for index, part in enumerate(answer_object["slices"]):
         kind = oracle.FILETYPES[part["filetype"]][1] if part["is_read"] else "not read"

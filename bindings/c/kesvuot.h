@@ -345,7 +345,7 @@ struct kesvuot_explanation {
 };
 
 /* Explains a refusal: what is at the place of the verdict, which parts conflict there, and which numbers. Pass the
- * bytes that were judged, by whichever profile. LIBRARY.md of the source has a table of what each rule gives.
+ * bytes that were judged, by whichever profile. reference/explain.md has a table of what each rule gives.
  * A number of 2^64 or more is given as 2^64 - 1. A missing index is KESVUOT_NO_INDEX.
  * OK: all fields are written. NONE: no rule has the number `rule`, or nothing that the rule is about is at `place`, as
  * after OK. All indices are then KESVUOT_NO_INDEX, and all other fields 0.
@@ -740,7 +740,7 @@ uint32_t kesvuot_find_export_trie(const void *file, size_t size, const struct ke
 
 /* All exports of an image are those of the nodes that are reached from the root, which is at offset 0 of the trie: the
  * name of each is made of the labels on the way to its node. The walk is that of the caller, who keeps which nodes are
- * left, and the labels that lead to them. docs/LIBRARY.md has one.
+ * left, and the labels that lead to them. guide/c.md has one.
  *
  * A node reaches from its offset to the `place` of its cursor past its last edge. In a file that the linked profile
  * accepts, the nodes that are met, each as often as it is met, have no more bytes than the trie. In any other an edge

@@ -63,7 +63,7 @@ type Part struct {
 	Described uint64
 }
 
-// An Explanation says why a file is refused. LIBRARY.md has a table of what each rule gives.
+// An Explanation says why a file is refused. docs/reference/explain.md has a table of what each rule gives.
 type Explanation struct {
 	// At is the structure that has the place, or the byte there. It lies in the file.
 	At Part

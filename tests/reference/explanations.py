@@ -1,4 +1,4 @@
-"""What explains a refusal, worked out a second time: from the table of docs/LIBRARY.md, over the parser of
+"""What explains a refusal, worked out a second time: from the table of docs/reference/explain.md, over the parser of
 oracle.py and nothing of the library. `explain` returns all numbers of a `struct kesvuot_explanation`.
 
 A function of a rule takes the image, or the file, and the place in it. It returns what is at the place, the two parts,

@@ -1,6 +1,6 @@
 #!/usr/bin/env python3
-"""A second verifier of the layout of Mach-O files. It was written from docs/rules, and from docs/COMMAND.md for what is
-printed. It reads the filetypes and the listed commands in the tables of layout.md there. Nothing was taken from the
+"""A second verifier of the layout of Mach-O files. It was written from docs/rules, and from docs/reference/commands.md for
+what is printed. It reads the filetypes and the listed commands in the tables of layout.md there. Nothing was taken from the
 sources of the first one. tests/oracle compares the two. It also judges the rules of the other profiles, as
 macho-verify does; tests/dyld loads what it accepts.
 
@@ -1919,7 +1919,7 @@ def first_sealed_broken(file):
 PROFILES = {"layout": first_broken, "strict": first_strictly_broken, "linked": first_linked_broken,
             "sealed": first_sealed_broken}
 
-# The layout, as docs/COMMAND.md has its lines
+# The layout, as docs/reference/commands.md has its lines
 
 def quoted(characters):
     """A name in double quotes. A quote, a backslash and a byte that is not printable ASCII are written as numbers."""

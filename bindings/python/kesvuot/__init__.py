@@ -29,8 +29,8 @@ As a call holds the GIL, threads do not judge in parallel: use processes for tha
 
     python3 -m kesvuot check PATH..
 
-is the command `kesvuot`, which judges files and folders (docs/TOOL.md). As in version 1.0.0, `python3 -m kesvuot FILE..`
-judges files alone. With `--json` each of them gives an object with "file" and "verdict": "accepted", with "slices";
+is the command `kesvuot`, which judges files and folders (docs/guide/kesvuot.md). As in version 1.0.0,
+`python3 -m kesvuot FILE..` judges files alone. With `--json` each of them gives an object with "file" and "verdict": "accepted", with "slices";
 "refused", with "rule" and "place"; or null, with "error". A slice has "place", "size", "arch" and "is_read", and if it
 is read also "filetype", "flags", "uuid", "base", "entry", "builds", "libraries", "segments", each with its "sections",
 and in "symbols" how many there are.

@@ -42,7 +42,7 @@ class Part(NamedTuple):
 class Explanation(NamedTuple):
     """Why a file is refused. `at` is the structure that has the place, or the byte there. `first` is what breaks the
     rule, and `second` with what it conflicts or in which it should lie: None if there is no such part. `value` and
-    `limit` are the numbers that the rule compares. docs/LIBRARY.md has a table of what each rule gives.
+    `limit` are the numbers that the rule compares. docs/reference/explain.md has a table of what each rule gives.
 
     `slice`, `command`, `section` and `symbol` are the indices of those whose structure has the place, or None."""
 

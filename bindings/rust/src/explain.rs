@@ -143,7 +143,7 @@ impl Part {
     }
 }
 
-/// Why a file is refused. `docs/LIBRARY.md` has a table of what each rule gives.
+/// Why a file is refused. `docs/reference/explain.md` has a table of what each rule gives.
 #[derive(Clone, Copy, Debug, PartialEq, Eq, Hash)]
 #[non_exhaustive]
 pub struct Explanation {

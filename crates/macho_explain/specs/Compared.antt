@@ -1,5 +1,5 @@
 -- What an explanation has of each rule: the numbers that the rule compares, and of overlaps what both parts
--- share. (docs/LIBRARY.md)
+-- share. (docs/reference/explain.md)
 use Rattle.std.specs.Prelude.{◌≡◌, ℕ, ◌+◌, ◌-◌, ◌*◌, ◌^◌, ◌≤◌, ◌<◌, ◌⊎◌, min, take, List, length, Option, Some, IsSomeAnd, slice_get, true}
 use Rattle.std.specs.Option.{option_map_or}
 use Rattle.macho_fields.specs.Field.{part}

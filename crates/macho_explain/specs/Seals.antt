@@ -1,4 +1,4 @@
--- What an explanation shows of the rules of the sealed profile. (docs/LIBRARY.md; cs_blobs.h: CS_CodeDirectory)
+-- What an explanation shows of the rules of the sealed profile. (docs/reference/explain.md; cs_blobs.h: CS_CodeDirectory)
 use Rattle.std.specs.Prelude.{◌≡◌, ℕ, ◌+◌, ◌<◌, ◌⊎◌, List, Some, true}
 use Rattle.macho_fields.specs.Bytes.{bytes_of}
 use Rattle.macho_sealed.specs.Pages.{page_at, IsOtherPage}

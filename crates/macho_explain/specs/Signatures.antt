@@ -1,5 +1,5 @@
 -- What an explanation shows of the rules of code signatures: two numbers that are not as the rule says, of the table of
--- LC_CODE_SIGNATURE. An offset is one in it. (docs/LIBRARY.md; cs_blobs.h: CS_SuperBlob, CS_CodeDirectory)
+-- LC_CODE_SIGNATURE. An offset is one in it. (docs/reference/explain.md; cs_blobs.h: CS_SuperBlob, CS_CodeDirectory)
 use Rattle.std.specs.Prelude.{◌≡◌, ◌≢◌, ℕ, ◌+◌, ◌*◌, ◌≤◌, ◌<◌, ◌⊎◌, List, length, Some, None, slice_get, IsSomeAnd}
 use Rattle.macho_fields.specs.Field.{part}
 use Rattle.macho_fields.specs.Image.{command_cmd}
