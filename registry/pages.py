@@ -1,0 +1,80 @@
+"""Tables of docs/audit that are counted or collected: how many lines of definitions there are to read, the mutants by
+the file that they change, and what each script of tests/ says of itself."""
+
+from __future__ import annotations
+
+import re
+import sys
+from itertools import groupby
+from pathlib import Path
+from typing import Iterator, List, Tuple
+
+TOP = Path(__file__).resolve().parent.parent
+sys.path.insert(0, str(TOP / "tests"))
+from support.mutants import Mutant, read_mutants
+from support.scripts import SCRIPTS
+
+# Scripts that the gate runs first, or that it leaves out.
+OTHERS = ["proofs", "mutants"]
+
+
+def definitions() -> Iterator[Tuple[str, List[Path]]]:
+    """The groups of the table of definitions in docs/audit/assumptions.md, each with its files."""
+    group, files = "", []
+    for line in (TOP / "docs/audit/assumptions.md").read_text(encoding="utf-8").splitlines():
+        heading = re.match(r"\| \*\*(.*)\*\* \|", line)
+        named = re.match(r"\| `(\w+/specs/)(\w*)`([^|]*)\|", line)
+        if heading or group and not line.startswith("|"):
+            if files:
+                yield group, files
+            group, files = heading[1] if heading else "", []
+        elif group and named:
+            names = [named[2]] if named[2] else re.findall(r"`(\w+)`", named[3])
+            files += [TOP / "crates" / f"{named[1]}{name}.antt" for name in names]
+
+
+def lines_of(path: Path) -> int:
+    return len(path.read_text(encoding="utf-8").splitlines())
+
+
+def reading(_: str) -> List[str]:
+    """How many files and lines of definitions each group has."""
+    rows = ["| Definitions of | Files | Lines | Together |", "|---|---:|---:|---:|"]
+    total = 0
+    for group, files in definitions():
+        lines = sum(map(lines_of, files))
+        total += lines
+        rows.append(f"| {group} | {len(files)} | {lines:,} | {total:,} |")
+    return rows
+
+
+def mutant_rows(_: str) -> List[str]:
+    """The mutants by the file that they change. The first name of a cell has the crate."""
+    def file_of(mutant: Mutant) -> Tuple[str, str]:
+        return mutant.crate, re.search("^file: (.*)$", mutant.text, re.MULTILINE)[1]
+
+    def cell(mutants: List[Mutant]) -> str:
+        names = [str(mutant) if number == 0 else mutant.name for number, mutant in enumerate(mutants)]
+        return ", ".join(f"`{name}`" for name in names)
+
+    rows = ["| File | Mutants that the gate tries | Other mutants |", "|---|---|---|"]
+    for (_, file), members in groupby(sorted(read_mutants(), key=file_of), file_of):
+        mutants = list(members)
+        gated, others = ([each for each in mutants if each.is_gated == is_gated] for is_gated in (True, False))
+        rows.append(f"| `{file}` | {cell(gated)} | {cell(others)} |")
+    return rows
+
+
+def comment_of(script: str) -> str:
+    """The first sentence of the comment with which a script begins."""
+    first, _, text = (TOP / "tests" / script).read_text(encoding="utf-8").partition("\n")
+    if "python" in first:
+        comment = re.match(r'"""(.*?)"""', text, re.DOTALL)[1]
+    else:
+        comment = re.sub("^# ?", "", re.match("(?:#.*\n)+", text)[0], flags=re.MULTILINE)
+    return re.split(r"(?<=\.)\s", " ".join(comment.split()))[0]
+
+
+def script_rows(_: str) -> List[str]:
+    rows = ["| Script | What it does |", "|---|---|"]
+    return rows + [f"| `tests/{name}` | {comment_of(name)} |" for name in [*OTHERS, *sorted(SCRIPTS)]]
