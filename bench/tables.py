@@ -1,9 +1,10 @@
-"""What the programs of this folder that measure have in common: the library, times of the processor, tables in Markdown,
-and the folders of tests/, which are found once this is imported."""
+"""What the programs of this folder that measure have in common: the library, times of the processor, tables in CSV, and
+the folders of tests/, which are found once this is imported."""
 
 from __future__ import annotations
 
 import argparse
+import csv
 import os
 import resource
 import sys
@@ -48,11 +49,6 @@ def processor_time() -> float:
 
 
 def print_row(*cells: object) -> None:
-    """Prints a row of a table."""
-    print("|", " | ".join(map(str, cells)), "|", flush=True)
-
-
-def print_head(*columns: object) -> None:
-    """Prints the head of a table, whose first column is set to the left, and the others to the right."""
-    print_row(*columns)
-    print_row("---", *("---:" for _ in columns[1:]))
+    """Prints a row of a table, the first of which has the names of its columns."""
+    csv.writer(sys.stdout, lineterminator="\n").writerow(cells)
+    sys.stdout.flush()
