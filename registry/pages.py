@@ -7,30 +7,16 @@ import re
 import sys
 from itertools import groupby
 from pathlib import Path
-from typing import Iterator, List, Tuple
+from typing import List, Tuple
 
 TOP = Path(__file__).resolve().parent.parent
 sys.path.insert(0, str(TOP / "tests"))
+from support import definitions
 from support.mutants import Mutant, read_mutants
 from support.scripts import SCRIPTS
 
 # Scripts that the gate runs first, or that it leaves out.
 OTHERS = ["proofs", "mutants"]
-
-
-def definitions() -> Iterator[Tuple[str, List[Path]]]:
-    """The groups of the table of definitions in docs/audit/assumptions.md, each with its files."""
-    group, files = "", []
-    for line in (TOP / "docs/audit/assumptions.md").read_text(encoding="utf-8").splitlines():
-        heading = re.match(r"\| \*\*(.*)\*\* \|", line)
-        named = re.match(r"\| `(\w+/specs/)(\w*)`([^|]*)\|", line)
-        if heading or group and not line.startswith("|"):
-            if files:
-                yield group, files
-            group, files = heading[1] if heading else "", []
-        elif group and named:
-            names = [named[2]] if named[2] else re.findall(r"`(\w+)`", named[3])
-            files += [TOP / "crates" / f"{named[1]}{name}.antt" for name in names]
 
 
 def lines_of(path: Path) -> int:
@@ -41,7 +27,7 @@ def reading(_: str) -> List[str]:
     """How many files and lines of definitions each group has."""
     rows = ["| Definitions of | Files | Lines | Together |", "|---|---:|---:|---:|"]
     total = 0
-    for group, files in definitions():
+    for group, files in definitions.listed():
         lines = sum(map(lines_of, files))
         total += lines
         rows.append(f"| {group} | {len(files)} | {lines:,} | {total:,} |")
