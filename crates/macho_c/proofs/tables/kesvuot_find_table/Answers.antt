@@ -4,7 +4,7 @@ use Rattle.macho_rows.specs.Image.{image_in}
 use Rattle.macho_rows.specs.Spans.{span_at}
 use Rattle.macho_rows.specs.Status.{KESVUOT_OK, KESVUOT_NONE}
 use Rattle.macho_rows.proofs.BoundedTables.{answers, is_whole}
-use Rattle.macho_c.proofs.bounded_tables.kesvuot_find_table.Goals as goal
+use Rattle.macho_c.proofs.tables.kesvuot_find_table.Goals as goal
 
 pub returns-in-Some : goal.returns-in-Some
 returns-in-Some c =
