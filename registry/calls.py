@@ -7,8 +7,8 @@ from typing import Dict, List, NamedTuple, Tuple
 
 COMMENT = re.compile(r"/\*.*?\*/", re.DOTALL)
 DECLARED = re.compile(r"^(static inline )?([a-z][\w ]*[ *])(kesvuot_\w+)\(([^)]*)\)(?:;| \{)$", re.MULTILINE)
-PYTHON = {"size_t": "size", "uint32_t": "u32", "uint64_t": "u64"}
-RUST = {"size_t": "usize", "uint32_t": "u32", "uint64_t": "u64", "void": "c_void", "char": "u8"}
+PYTHON = {"int": "i32", "size_t": "size", "uint32_t": "u32", "uint64_t": "u64"}
+RUST = {"int": "i32", "size_t": "usize", "uint32_t": "u32", "uint64_t": "u64", "void": "c_void", "char": "u8"}
 # What a call takes that reads rows of a table of an image, whatever its row is.
 READS_ROWS = ("file", "size", "image", "cursor", "rows", "max")
 RUST_WIDTH = 100

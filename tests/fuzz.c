@@ -1282,7 +1282,7 @@ static uint32_t check_verdicts(const uint8_t *file, size_t size, struct kesvuot_
     memset(verdicts, UNWRITTEN, VERDICTS * sizeof *verdicts);
     for (uint32_t profile = KESVUOT_LAYOUT; profile <= KESVUOT_SEALED; profile++) {
         struct kesvuot_verdict *found = &verdicts[profile];
-        uint32_t status = kesvuot_verify(file, size, profile, found);
+        uint32_t status = (uint32_t)kesvuot_verify(file, size, profile, found);
         check_verdict(status, found, size);
         if (accepted < profile - 1) {
             CHECK(memcmp(found, found - 1, sizeof *found) == 0);

@@ -211,7 +211,7 @@ struct kesvuot_verdict {
  * by file offset, the elements do not, a range is encrypted, or a byte 0x90 (a NOP) is in no element.
  * LINKED and SEALED: also a file that STRICT accepts, if some slice has more than 16 mapped segments, several
  * executable ones that have bytes in the file, or an export trie. */
-uint32_t kesvuot_verify(const void *file, size_t size, uint32_t profile, struct kesvuot_verdict *verdict);
+int kesvuot_verify(const void *file, size_t size, uint32_t profile, struct kesvuot_verdict *verdict);
 
 /* Writes the layout of an accepted file as text, as macho-check prints it: up to `max` bytes, from its first byte on.
  * Later bytes of `text` are unchanged, and no zero byte is added. `needed` is the length of the whole layout: if it is

@@ -152,7 +152,7 @@ static void try_names_of_numbers(void) {
 }
 
 // The same verdict by all profiles from one to another.
-static void try_verdict(uint32_t first, uint32_t last, const void *bytes, size_t size, uint32_t status,
+static void try_verdict(uint32_t first, uint32_t last, const void *bytes, size_t size, int status,
                         struct kesvuot_verdict wanted) {
     for (uint32_t profile = first; profile <= last; profile++) {
         struct kesvuot_verdict verdict;
@@ -162,7 +162,7 @@ static void try_verdict(uint32_t first, uint32_t last, const void *bytes, size_t
     }
 }
 
-static void try_all(const void *bytes, size_t size, uint32_t status, struct kesvuot_verdict wanted) {
+static void try_all(const void *bytes, size_t size, int status, struct kesvuot_verdict wanted) {
     try_verdict(KESVUOT_LAYOUT, KESVUOT_SEALED, bytes, size, status, wanted);
 }
 

@@ -223,7 +223,7 @@ static void try_room(uint32_t status, struct text text, size_t size, enum side s
 static void try_file(const char *path) {
     file = read_file(path, side_or_block(AT_END));
     struct kesvuot_verdict verdict;
-    const uint32_t status = kesvuot_verify(file.bytes, file.size, KESVUOT_LAYOUT, &verdict);
+    const uint32_t status = (uint32_t)kesvuot_verify(file.bytes, file.size, KESVUOT_LAYOUT, &verdict);
     const struct text text = status == KESVUOT_OK ? text_of(verdict.slices) : (struct text){NULL, 0};
     size_t needed = SIZE_MAX;
     CHECK(kesvuot_layout(file.bytes, file.size, NULL, 0, &needed) == status && needed == text.len);

@@ -190,7 +190,7 @@ static void take_verdict(size_t size) {
     struct kesvuot_verdict verdict;
     memset(&verdict, UNWRITTEN, sizeof verdict);
     const uint32_t profile = (uint32_t)lie(draw_below(KESVUOT_SEALED + 2));
-    const uint32_t status = kesvuot_verify(file.bytes, size, profile, &verdict);
+    const uint32_t status = (uint32_t)kesvuot_verify(file.bytes, size, profile, &verdict);
     calls++;
     if (kesvuot_profile_name(profile)) {
         CHECK(status == KESVUOT_OK || status == KESVUOT_REFUSED);

@@ -41,7 +41,7 @@ static uint32_t judge_refusing(uint32_t profile, struct file file, long number, 
     memset(verdict, UNWRITTEN, sizeof *verdict);
     asked = 0;
     refused = number;
-    const uint32_t status = kesvuot_verify(file.bytes, file.size, profile, verdict);
+    const uint32_t status = (uint32_t)kesvuot_verify(file.bytes, file.size, profile, verdict);
     refused = 0;
     CHECK(held == held_before);
     return status;

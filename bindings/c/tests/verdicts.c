@@ -29,7 +29,7 @@ static void print_line(uint32_t status, const struct kesvuot_verdict *verdict) {
 static uint32_t judge_at(uint32_t profile, const char *path, enum side side, struct kesvuot_verdict *verdict) {
     const struct file file = read_file(path, side_or_block(side));
     *verdict = unwritten();
-    const uint32_t status = kesvuot_verify(file.bytes, file.size, profile, verdict);
+    const uint32_t status = (uint32_t)kesvuot_verify(file.bytes, file.size, profile, verdict);
     release(file);
     return status;
 }

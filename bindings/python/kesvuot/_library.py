@@ -79,11 +79,12 @@ def load() -> Any:
 
 def _declare(library: Any) -> None:
     """Gives each call its types, as in kesvuot.h."""
-    pointer, size, u32, u64 = ctypes.c_void_p, ctypes.c_size_t, ctypes.c_uint32, ctypes.c_uint64
+    pointer, size, i32 = ctypes.c_void_p, ctypes.c_size_t, ctypes.c_int
+    u32, u64 = ctypes.c_uint32, ctypes.c_uint64
     calls: Dict[str, Tuple[Any, List[Any]]] = {
         # registry: calls
         "kesvuot_version": (u32, []),
-        "kesvuot_verify": (u32, [pointer, size, u32, pointer]),
+        "kesvuot_verify": (i32, [pointer, size, u32, pointer]),
         "kesvuot_layout": (u32, [pointer, size, pointer, size, pointer]),
         "kesvuot_find_rule": (u32, [u32, pointer]),
         "kesvuot_rule_profile": (u32, [u32]),

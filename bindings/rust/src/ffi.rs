@@ -293,7 +293,7 @@ extern "C" {
     // registry: calls
     fn kesvuot_version() -> u32;
     fn kesvuot_verify(file: *const c_void, size: usize, profile: u32, verdict: *mut Verdict)
-        -> u32;
+        -> i32;
     fn kesvuot_layout(
         file: *const c_void,
         size: usize,
@@ -532,7 +532,7 @@ pub fn verify(file: &[u8], profile: u32) -> (u32, Verdict) {
     let (at, mut verdict) = (file.as_ptr().cast(), Verdict::default());
     // SAFETY: the file may be read, and nobody changes it meanwhile. The verdict may be written.
     let status = unsafe { kesvuot_verify(at, file.len(), profile, &mut verdict) };
-    (status, verdict)
+    (status as u32, verdict)
 }
 
 /// The status, and what explains that the file breaks the rule with this number at a place.

@@ -1,5 +1,5 @@
 -- What a verdict says of a file.
-use Rattle.std.specs.Prelude.{◌≡◌, ℕ, ◌⊎◌, List, length}
+use Rattle.std.specs.Prelude.{◌≡◌, ℕ, ℤ, pos, ◌⊎◌, List, length}
 use Rattle.macho_fields.specs.RuleList.{rule_number}
 use Rattle.macho_fields.specs.Universal.{slices_of}
 use Rattle.macho_fields.specs.declared.rule.Break.{Break}
@@ -28,8 +28,8 @@ abbrev pub IsUndecided : Profile → List ℕ → KesvuotVerdict → Type 0
 IsUndecided profile file v = IsRefusedBy profile file refusal.Memory × Has v 0 0 0
 
 -- the answer on a file
-abbrev pub IsVerdict : Profile → List ℕ → ℕ → KesvuotVerdict → Type 0
+abbrev pub IsVerdict : Profile → List ℕ → ℤ → KesvuotVerdict → Type 0
 IsVerdict profile file status v =
-    ((status ≡ KESVUOT_OK) × IsAccepted profile file v)
-    ⊎ ((status ≡ KESVUOT_REFUSED) × IsRefused profile file v)
-    ⊎ ((status ≡ KESVUOT_NO_MEMORY) × IsUndecided profile file v)
+    ((status ≡ pos KESVUOT_OK) × IsAccepted profile file v)
+    ⊎ ((status ≡ pos KESVUOT_REFUSED) × IsRefused profile file v)
+    ⊎ ((status ≡ pos KESVUOT_NO_MEMORY) × IsUndecided profile file v)

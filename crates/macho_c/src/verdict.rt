@@ -1,6 +1,6 @@
 //! The verdict on a file.
 
-ghost use Rattle.std.specs.Prelude.{◌≡◌, length, IfNone, IfSome};
+ghost use Rattle.std.specs.Prelude.{◌≡◌, length, pos, IfNone, IfSome};
 ghost use Rattle.macho_fields.specs.RuleList.{profile_numbered, rule_number};
 ghost use Rattle.macho_fields.specs.Universal.{slices_of};
 ghost use Rattle.macho_rows.specs.Status.{KESVUOT_OK, KESVUOT_REFUSED, KESVUOT_NO_MEMORY, KESVUOT_UNKNOWN_PROFILE};
@@ -35,20 +35,20 @@ pub extern "C" fn kesvuot_verify(
     file: &[u8],
     profile: u32,
     verdict: &mut KesvuotVerdict,
-) -> u32
+) -> i32
     ensures known { IfSome (profile_numbered profile) (λ by.
         IsVerdict by file.now result verdict.new) }
     ensures unknown { IfNone (profile_numbered profile)
-        ((result ≡ KESVUOT_UNKNOWN_PROFILE) × (verdict.new ≡ verdict.old)) }
+        ((result ≡ pos KESVUOT_UNKNOWN_PROFILE) × (verdict.new ≡ verdict.old)) }
 {
     match Profile::with_number(profile) {
         Some(profile) => judge(alloc, file, profile, verdict),
-        None => UNKNOWN_PROFILE,
+        None => UNKNOWN_PROFILE as i32,
     }
 }
 
 // Decides the rules of a file, of the profiles up to this one.
-fn judge(alloc: Global, file: &[u8], profile: Profile, verdict: &mut KesvuotVerdict) -> u32
+fn judge(alloc: Global, file: &[u8], profile: Profile, verdict: &mut KesvuotVerdict) -> i32
     ensures { IsVerdict profile file.now result verdict.new }
 {
     match verify_by(alloc, profile, file) {
@@ -59,8 +59,8 @@ fn judge(alloc: Global, file: &[u8], profile: Profile, verdict: &mut KesvuotVerd
 }
 
 // The file is accepted.
-fn accept(verified: &Verified, verdict: &mut KesvuotVerdict) -> u32
-    ensures status { result ≡ KESVUOT_OK }
+fn accept(verified: &Verified, verdict: &mut KesvuotVerdict) -> i32
+    ensures status { result ≡ pos KESVUOT_OK }
     ensures verdict { Has verdict.new 0 0 (length (slices_of verified.now)) }
 {
     *verdict = KesvuotVerdict {
@@ -69,12 +69,12 @@ fn accept(verified: &Verified, verdict: &mut KesvuotVerdict) -> u32
         rule: 0,
         reserved: 0,
     };
-    OK
+    OK as i32
 }
 
 // The file breaks a rule.
-fn refuse(broken: Break, verdict: &mut KesvuotVerdict) -> u32
-    ensures status { result ≡ KESVUOT_REFUSED }
+fn refuse(broken: Break, verdict: &mut KesvuotVerdict) -> i32
+    ensures status { result ≡ pos KESVUOT_REFUSED }
     ensures verdict { Has verdict.new (rule_number broken.rule) broken.place 0 }
 {
     *verdict = KesvuotVerdict {
@@ -83,12 +83,12 @@ fn refuse(broken: Break, verdict: &mut KesvuotVerdict) -> u32
         rule: broken.rule.number(),
         reserved: 0,
     };
-    REFUSED
+    REFUSED as i32
 }
 
 // There was no memory.
-fn give_up(verdict: &mut KesvuotVerdict) -> u32
-    ensures status { result ≡ KESVUOT_NO_MEMORY }
+fn give_up(verdict: &mut KesvuotVerdict) -> i32
+    ensures status { result ≡ pos KESVUOT_NO_MEMORY }
     ensures verdict { Has verdict.new 0 0 0 }
 {
     *verdict = KesvuotVerdict {
@@ -97,5 +97,5 @@ fn give_up(verdict: &mut KesvuotVerdict) -> u32
         rule: 0,
         reserved: 0,
     };
-    NO_MEMORY
+    NO_MEMORY as i32
 }
