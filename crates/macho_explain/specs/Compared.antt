@@ -28,7 +28,6 @@ use Rattle.macho_symbols.specs.Nlist.{library_ordinal}
 use Rattle.macho_symbols.specs.Reloc.{relocation_at}
 use Rattle.macho_symbols.specs.declared.reloc.Relocation.{Relocation}
 use Rattle.macho_fields.specs.declared.header.reloc.TheConstants as reloc
-use Rattle.macho_symbols.specs.declared.reloc.TheConstants as reloc
 use Rattle.macho_image.specs.Symbol.{symbol_at}
 use Rattle.macho_explain.specs.Explain.{all_loads, IsCommandAt, IsSectionAt, IsSymbolAt, no_index, long_at, word_at}
 use Rattle.macho_explain.specs.Seals.{IsRepeatShown, ShowsHash}
