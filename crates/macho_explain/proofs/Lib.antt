@@ -1,3 +1,4 @@
+pub mod Shown
 pub mod ShownExports
 pub mod ShownSeals
 pub mod ShownSignatures

@@ -1,18 +1,15 @@
 -- What an explanation shows of an export trie.
 use Rattle.std.proofs.Common.{◌≡◌, ℕ, true, List, Option, Some, None, IfSome, refl, sym, ap, subst, arith}
-use Rattle.std.specs.Prelude.{IsSomeAnd}
+use Rattle.std.specs.Prelude.{IsSomeAnd, MatchOption}
 use Rattle.std.specs.Option.{option_map, is_some}
 use Rattle.std.proofs.lemmas.Bool.{false≢true}
 use Rattle.std.proofs.lemmas.Option.{none-some, same_Some}
-use Rattle.macho_fields.specs.declared.rule.Rule.{Rule}
-use Rattle.macho_fields.specs.declared.rule.Rule.TheVariants as rule
 use Rattle.macho_spans.specs.declared.span.Span.{Span}
 use Rattle.macho_exports.specs.ExportTrie.{Node, edges_at, head_at, node_at}
 use Rattle.macho_exports.specs.declared.export_trie.ExportEdge.{ExportEdge}
 use Rattle.macho_exports.specs.declared.export_trie.ExportNode.{ExportNode}
-use Rattle.macho_explain.specs.Compared.{HasAddress, ShowsConflict, ShowsExport, node_bounds}
-use Rattle.macho_explain.specs.Explain.{IsSegmentFound}
-use Rattle.macho_explain.specs.declared.conflict.Conflict.{Conflict}
+use Rattle.macho_explain.specs.Compared.{HasAddress, node_bounds}
+use Rattle.macho_explain.specs.Explain.{IsSegmentFound, NoSegmentMeets}
 use Rattle.macho_explain.specs.declared.segment.SegmentAt.{SegmentAt}
 use Rattle.macho_explain.specs.declared.segment.SegmentWith.TheVariants as with
 
@@ -57,17 +54,7 @@ node_shown P bounds (Some node) is has = subst P (same_Some bounds (node_bounds 
 -- Segments
 
 -- the segment that is found has the address
-pub has_address : (image : List ℕ) (address : ℕ) (found : Option SegmentAt) → IfSome found (IsSegmentFound image (with.Address address)) → is_some found ≡ true → HasAddress image address
+pub has_address : (image : List ℕ) (address : ℕ) (found : Option SegmentAt) → MatchOption found (NoSegmentMeets image (with.Address address)) (IsSegmentFound image (with.Address address)) → is_some found ≡ true → HasAddress image address
 has_address image address None is none = absurd (false≢true none)
 has_address image address (Some segment) is some =
     let row = is.row in (segment.place, omega (arith, is.meets.0, row.start), omega (arith, is.meets.1, row.start, row.size))
-
--- Rules
-
-pub rule_shown : (r : Rule) (image : List ℕ) (place : ℕ) (c : Conflict) → ShowsExport r image place c → ShowsConflict r image place c
-rule_shown rule.ExportNode image place c has = has
-rule_shown rule.ExportTotal image place c has = has
-rule_shown rule.ExportTerminal image place c has = has
-rule_shown rule.ExportLibrary image place c has = has
-rule_shown rule.ExportAddress image place c has = has
-rule_shown other image place c has = absurd has.3

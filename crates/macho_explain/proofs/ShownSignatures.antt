@@ -2,26 +2,14 @@
 use Rattle.std.proofs.Common.{◌≡◌, ◌∙◌, ℕ, List, Option, None, Some, IfSome, inl, inr, sym, ap, subst}
 use Rattle.std.specs.Prelude.{IsSomeAnd}
 use Rattle.macho_fields.specs.Field.{part}
-use Rattle.macho_fields.specs.declared.rule.Rule.{Rule}
-use Rattle.macho_fields.specs.declared.rule.Rule.TheVariants as rule
 use Rattle.macho_signature.specs.CodeDirectories.{code_directory}
 use Rattle.macho_signature.specs.Signature.{bytes_at}
 use Rattle.macho_signature.specs.Superblobs.{blob_at, blob_bytes, blob_span}
 use Rattle.macho_signature.specs.declared.code_directory.CodeDirectory.{CodeDirectory}
 use Rattle.macho_signature.specs.declared.superblob.Blob.{Blob}
 use Rattle.macho_spans.specs.declared.span.Span.{Span}
-use Rattle.macho_explain.specs.Compared.{ShowsConflict}
-use Rattle.macho_explain.specs.Signatures.{IsSoundnessShown, IsUnsoundShown, ShowsSignature}
+use Rattle.macho_explain.specs.Signatures.{IsSoundnessShown, IsUnsoundShown}
 use Rattle.macho_explain.specs.declared.conflict.Conflict.{Conflict}
-
-pub rule_shown : (r : Rule) (image : List ℕ) (place : ℕ) (c : Conflict) → ShowsSignature r image place c.value c.limit → ShowsConflict r image place c
-rule_shown rule.SignatureBlob image place c has = has
-rule_shown rule.SignatureDirectory image place c has = has
-rule_shown rule.SignatureWhole image place c has = has
-rule_shown other image place c has = elim has.3 [
-  | inl start ↦ absurd start.1
-  | inr entry ↦ absurd entry.2
-]
 
 -- the bytes of the blob k of a signature
 pub blob_read : (signature bytes : List ℕ) (k : ℕ) (blob : Blob) (span : Span) → blob ≡ blob_at signature k → span ≡ blob_span blob → bytes ≡ part span.start span.len signature → bytes ≡ bytes_at signature k

@@ -1,6 +1,6 @@
 -- What an explanation has of each rule: the numbers that the rule compares, and of overlaps what both parts
 -- share. (docs/reference/explain.md)
-use Rattle.std.specs.Prelude.{◌≡◌, ℕ, ◌+◌, ◌-◌, ◌*◌, ◌^◌, ◌≤◌, ◌<◌, ◌⊎◌, min, take, List, length, Option, Some, IsSomeAnd, slice_get, true}
+use Rattle.std.specs.Prelude.{◌≡◌, ℕ, ◌+◌, ◌-◌, ◌*◌, ◌/◌, ◌^◌, ◌≤◌, ◌<◌, ◌⊎◌, min, take, List, length, Option, Some, MatchOption, IsSomeAnd, slice_get, true}
 use Rattle.std.specs.Option.{option_map_or}
 use Rattle.macho_fields.specs.Field.{part}
 use Rattle.macho_fields.specs.Image.{command_cmd, command_size, commands_of}
@@ -29,24 +29,17 @@ use Rattle.macho_symbols.specs.Reloc.{relocation_at}
 use Rattle.macho_symbols.specs.declared.reloc.Relocation.{Relocation}
 use Rattle.macho_fields.specs.declared.header.reloc.TheConstants as reloc
 use Rattle.macho_image.specs.Symbol.{symbol_at}
-use Rattle.macho_explain.specs.Explain.{all_loads, IsCommandAt, IsSectionAt, IsSymbolAt, no_index, long_at, word_at}
+use Rattle.macho_explain.specs.Explain.{all_loads, all_segment_loads, IsUncounted, long_at, word_at}
+use Rattle.macho_explain.specs.Parts.{IsBefore, Share}
 use Rattle.macho_explain.specs.Seals.{IsRepeatShown, ShowsHash}
-use Rattle.macho_explain.specs.Signatures.{ShowsSignature}
+use Rattle.macho_explain.specs.Signatures.{IsBlobShown, IsLimitShown, IsSizeOfTable, IsSuperblobShown, IsUnsoundShown, ShowsSignature}
+use Rattle.macho_signature.specs.Signature.{bytes_at}
 use Rattle.macho_rows.specs.Segments.{last_address}
 use Rattle.macho_explain.specs.declared.conflict.Conflict.{Conflict}
-use Rattle.macho_explain.specs.declared.spot.Spot.{Spot}
 
 -- a number as it is written: the largest of 64 bits where it has more
 abbrev pub written : ℕ → ℕ
 written number = min number (2 ^ 64 - 1)
-
--- both parts have the bytes, or addresses, from the value up to the limit
-pub record Share (conflict : Conflict) : Type 0 where
-  pub some : conflict.value ≤ conflict.limit
-  pub first_from : conflict.first.start ≤ conflict.value
-  pub first_to : conflict.limit < conflict.first.start + conflict.first.size
-  pub second_from : conflict.second.start ≤ conflict.value
-  pub second_to : conflict.limit < conflict.second.start + conflict.second.size
 
 -- The addresses of the section are not those of its segment: it begins before, or ends past them.
 abbrev pub ShowsOutsideMemory : List ℕ → ℕ → ℕ → ℕ → ℕ → Type 0
@@ -69,13 +62,9 @@ ShowsMisplaced image segment section value limit =
 abbrev pub SharesOrPasses : List ℕ → Conflict → Type 0
 SharesOrPasses image conflict = Share conflict ⊎ (conflict.limit ≡ length image)
 
--- The number is the size of a table of chained fixups, as its command says. (linkedit_data_command: datasize
--- at 12)
+-- the number is the size of a table of chained fixups, as its command says
 abbrev pub IsChainSize : List ℕ → ℕ → Type 0
-IsChainSize image size =
-    (index : ℕ) × (command : ℕ) × (slice_get (all_loads image) index ≡ Some command)
-    × (command_cmd image command ≡ loader.LC_DYLD_CHAINED_FIXUPS)
-    × (size ≡ word_at image (command + 12))
+IsChainSize image size = IsSizeOfTable image loader.LC_DYLD_CHAINED_FIXUPS size
 
 -- the 64 bits at the place are a pointer that binds the import with this ordinal
 abbrev pub Binds : List ℕ → ℕ → ℕ → Type 0
@@ -118,7 +107,7 @@ HasExportTarget trie terminal P = IsSomeAnd (export_in trie terminal) (λ e. P e
 -- the ordinal of the library that has a symbol
 abbrev pub HasOrdinal : ℕ → Target → Type 0
 HasOrdinal value (target.Reexport ordinal name) = value ≡ ordinal
-HasOrdinal value other = ⊥
+HasOrdinal value (target.Address address resolver) = ⊥
 
 -- a segment has the address
 abbrev pub HasAddress : List ℕ → ℕ → Type 0
@@ -136,27 +125,11 @@ IsAddressShown image base address resolver value =
 abbrev pub LeadsTo : List ℕ → ℕ → Target → Type 0
 LeadsTo image value (target.Address address resolver) =
     IsSomeAnd (base_of image (commands_of image)) (λ base. IsAddressShown image base address resolver value)
-LeadsTo image value other = ⊥
+LeadsTo image value (target.Reexport ordinal name) = ⊥
 
--- what is shown of the node at an offset of an export trie: of no other rule than these
-abbrev pub ShowsNode : Rule → List ℕ → List ℕ → ℕ → ℕ → ℕ → Type 0
-ShowsNode rule.ExportNode image trie offset value limit = (value ≡ offset) × (limit ≡ length trie)
-ShowsNode rule.ExportTotal image trie offset value limit =
-    IsSomeAnd (node_at trie offset) (λ node. value ≡ node.end - offset) × (limit ≡ length trie)
-ShowsNode rule.ExportTerminal image trie offset value limit =
-    IsSomeAnd (node_at trie offset) (λ node. value ≡ flags_shown trie node.terminal) × (limit ≡ 0x1f)
-ShowsNode rule.ExportLibrary image trie offset value limit =
-    IsSomeAnd (node_at trie offset) (λ node. HasExportTarget trie node.terminal (HasOrdinal value))
-    × (limit ≡ library_count image)
-ShowsNode rule.ExportAddress image trie offset value limit =
-    IsSomeAnd (node_at trie offset) (λ node. HasExportTarget trie node.terminal (LeadsTo image value))
-    × (limit ≡ 0)
-ShowsNode other image trie offset value limit = ⊥
-
--- such a node, at the place
-abbrev pub ShowsExport : Rule → List ℕ → ℕ → Conflict → Type 0
-ShowsExport rule image place c =
-    InTable image place (λ trie offset. ShowsNode rule image trie offset c.value c.limit)
+-- the node at an offset of the trie has P of its terminal part, and of where it ends
+abbrev pub HasNode : List ℕ → ℕ → (Span → ℕ → Type 0) → Type 0
+HasNode trie offset P = IsSomeAnd (node_at trie offset) (λ node. P node.terminal node.end)
 
 -- What only proofs need: where the terminal part of a node is, and where the node ends.
 abbrev pub node_bounds : Node → Span × ℕ
@@ -170,119 +143,154 @@ IsRelocationShown relocation c =
 -- a thread and an earlier one, or its size
 abbrev pub IsThreadShown : List ℕ → ℕ → Conflict → Type 0
 IsThreadShown image place c =
-    ((c.value ≡ command_cmd image place) × (c.second.index < c.first.index))
+    ((c.value ≡ command_cmd image place) × IsBefore c)
     ⊎ ((c.value ≡ command_size image place) × (c.limit ≡ 0))
 
--- what is shown of a rule of an image that is broken at a place of it
-abbrev pub ShowsConflict : Rule → List ℕ → ℕ → Conflict → Type 0
-ShowsConflict rule.HeaderTruncated image place c = (c.value ≡ 32) × (c.limit ≡ length image)
-ShowsConflict rule.FileType image place c = c.value ≡ word_at image 12
-ShowsConflict rule.CommandsOutside image place c =
-    (c.value ≡ 32 + word_at image 20) × (c.limit ≡ length image)
-ShowsConflict rule.CommandsEnd image place c = c.limit ≡ 32 + word_at image 20
-ShowsConflict rule.HeaderSegment image place c = c.value ≡ 32 + word_at image 20
-ShowsConflict rule.CommandShort image place c = c.value ≡ command_size image place
-ShowsConflict rule.CommandRepeated image place c =
-    (c.value ≡ command_cmd image place) × (c.limit ≡ command_cmd image place)
-    × (c.second.index < c.first.index)
-ShowsConflict rule.Name image place c = c.value ≡ word_at image (place + 8)
-ShowsConflict rule.SegmentAddress image place c =
-    (c.value ≡ vmsize image place) × (c.limit ≡ written (2 ^ 64 - vmaddr image place))
-ShowsConflict rule.SegmentSize image place c =
-    (c.value ≡ filesize image place) × (c.limit ≡ vmsize image place)
-ShowsConflict rule.SegmentFile image place c =
-    (c.value ≡ written (fileoff image place + filesize image place)) × (c.limit ≡ length image)
-ShowsConflict rule.SegmentOverlap image place c = Share c
-ShowsConflict rule.SectionAddress image place c =
-    (segment : ℕ) × ShowsOutsideMemory image segment place c.value c.limit
-ShowsConflict rule.SectionFile image place c =
-    (segment : ℕ) × ShowsMisplaced image segment place c.value c.limit
-ShowsConflict rule.SectionRelocs image place c =
-    (c.value ≡ reloff image place + 8 * nreloc image place) × (c.limit ≡ length image)
-ShowsConflict rule.SymbolName image place c = c.value ≡ n_strx image place
-ShowsConflict rule.SymbolSection image place c =
-    (c.value ≡ n_sect image place) × (c.limit ≡ section_count image (commands_of image))
-ShowsConflict rule.IndirectIndex image place c = c.value ≡ word_at image place
-ShowsConflict rule.SegmentFileOverlap image place c = Share c
-ShowsConflict rule.ElementOverlap image place c = SharesOrPasses image c
-ShowsConflict rule.StrayByte image place c = (slice_get image place ≡ Some c.value) × (c.limit ≡ 0)
-ShowsConflict rule.CommandSlack image place c = (slice_get image place ≡ Some c.value) × (c.limit ≡ 0)
-ShowsConflict rule.UnclaimedByte image place c = (slice_get image place ≡ Some c.value) × (c.limit ≡ 0)
-ShowsConflict rule.TableRepeated image place c =
-    (c.value ≡ command_cmd image place) × (share_kind c.limit c.value ≡ true)
-    × (c.second.index < c.first.index)
-ShowsConflict rule.FunctionVariants image place c = c.value ≡ command_cmd image place
-ShowsConflict rule.RebaseOpcode image place c = (slice_get image place ≡ Some c.value) × (c.limit ≡ 143)
-ShowsConflict rule.BindOpcode image place c = (slice_get image place ≡ Some c.value) × (c.limit ≡ 207)
-ShowsConflict rule.RebaseTotal image place c = c.limit ≡ written (budget_of image)
-ShowsConflict rule.BindTotal image place c = c.limit ≡ written (budget_of image)
-ShowsConflict rule.BindLibrary image place c = c.limit ≡ library_count image
-ShowsConflict rule.ChainHeader image place c =
-    IsChainSize image c.value × (c.limit ≡ chained.DYLD_CHAINED_FIXUPS_HEADER_SIZE)
-ShowsConflict rule.ChainStarts image place c =
-    IsChainSize image c.limit
-    ⊎ ((c.value ≡ word_at image place) × (c.limit ≡ length (all_segments image)))
-ShowsConflict rule.ChainImports image place c = IsChainSize image c.limit
-ShowsConflict rule.ChainTotal image place c = IsChainSize image c.limit
-ShowsConflict rule.ChainLibrary image place c = c.limit ≡ library_count image
-ShowsConflict rule.ChainBind image place c = Binds image place c.value
-ShowsConflict rule.ExportNode image place c = ShowsExport rule.ExportNode image place c
-ShowsConflict rule.ExportTotal image place c = ShowsExport rule.ExportTotal image place c
-ShowsConflict rule.ExportTerminal image place c = ShowsExport rule.ExportTerminal image place c
-ShowsConflict rule.ExportLibrary image place c = ShowsExport rule.ExportLibrary image place c
-ShowsConflict rule.ExportAddress image place c = ShowsExport rule.ExportAddress image place c
-ShowsConflict rule.FunctionNumber image place c = (slice_get image place ≡ Some c.value) × (c.limit ≡ 0)
-ShowsConflict rule.FunctionStart image place c = IsFunctionShown image place c.value
-ShowsConflict rule.DataInCode image place c =
-    (c.limit ≡ loader.DATA_IN_CODE_ENTRY_SIZE) ⊎ IsEntryShown (entry_at image place) c
-ShowsConflict rule.SignatureBlob image place c = ShowsSignature rule.SignatureBlob image place c.value c.limit
-ShowsConflict rule.SignatureDirectory image place c =
-    ShowsSignature rule.SignatureDirectory image place c.value c.limit
-ShowsConflict rule.SignatureWhole image place c = ShowsSignature rule.SignatureWhole image place c.value c.limit
-ShowsConflict rule.SignatureMissing image place c = (place ≡ 0) × (c.value ≡ 0) × (c.limit ≡ 1)
-ShowsConflict rule.DirectoryRepeated image place c =
-    IsRepeatShown image place c.value × (c.limit ≡ c.value) × (c.second.index < c.first.index)
-ShowsConflict rule.SignatureSlack image place c = (slice_get image place ≡ Some c.value) × (c.limit ≡ 0)
-ShowsConflict rule.SignatureHash image place c = ShowsHash image place c.value c.limit
-ShowsConflict rule.SymbolLibrary image place c =
-    (c.value ≡ library_ordinal (symbol_at image place)) × (c.limit ≡ library_count image)
-ShowsConflict rule.SymbolValue image place c = c.value ≡ (symbol_at image place).value
-ShowsConflict rule.SymbolIndirect image place c = c.value ≡ (symbol_at image place).value
-ShowsConflict rule.Relocation image place c = IsRelocationShown (relocation_at image place) c
-ShowsConflict rule.Thread image place c = IsThreadShown image place c
-ShowsConflict rule.CommandContent image place c = c.value ≡ command_size image place
-ShowsConflict other image place c = Unit {0}
+-- where the first 8 bytes of a command end, or all; or its size, which is none of a command
+abbrev pub IsWalkShown : List ℕ → ℕ → ℕ → ℕ → Type 0
+IsWalkShown image place value limit =
+    ((limit ≡ 32 + word_at image 20)
+    × ((value ≡ written (place + 8)) ⊎ (value ≡ written (place + word_at image (written (place + 4))))))
+    ⊎ ((value ≡ word_at image (written (place + 4))) × (limit ≡ 8))
+
+-- the address of the entry, by the first part, which has the base; or where none has it, its distance from it
+abbrev pub IsEntryPointShown : List ℕ → ℕ → Conflict → Type 0
+IsEntryPointShown image place c =
+    MatchOption c.first (c.value ≡ long_at image (place + 8))
+    (λ memory. c.value ≡ written (memory.start + long_at image (place + 8)))
+
+-- a byte that has no place there is not 0
+abbrev pub IsByteShown : List ℕ → ℕ → Conflict → Type 0
+IsByteShown image place c = (slice_get image place ≡ Some c.value) × (c.limit ≡ 0)
+
+-- the number of an architecture with this cputype
+abbrev pub IsArchOf : ℕ → ℕ → Type 0
+IsArchOf cputype number = number / 2 ^ 32 ≡ cputype
+
+-- where the file bytes of a segment end, or how many there are
+abbrev pub IsFileEnd : List ℕ → ℕ → Type 0
+IsFileEnd image end = (segment : ℕ) × (end ≡ written (fileoff image segment + filesize image segment))
+
+abbrev pub IsFileSize : List ℕ → ℕ → Type 0
+IsFileSize image size = (segment : ℕ) × (size ≡ filesize image segment)
+
+-- no segment can be the home, or where one ends that is none, or both parts share bytes
+abbrev pub IsHomelessShown : List ℕ → Conflict → Type 0
+IsHomelessShown image c = (c.limit ≡ 0) ⊎ IsFileEnd image c.limit ⊎ Share c
+
+-- What a rule is about: of the rules for which it is promised that this is explained
+
+abbrev pub HasHeader : List ℕ → ℕ → Type 0
+HasHeader image place = place < loader.MACH_HEADER_64_SIZE
+
+abbrev pub HasStart : List ℕ → ℕ → Type 0
+HasStart image place = place ≡ 0
+
+abbrev pub HasCommand : List ℕ → ℕ → Type 0
+HasCommand image place =
+    ¬ IsUncounted image × (k : ℕ) × (slice_get (all_loads image) k ≡ Some place)
+
+abbrev pub HasSegment : List ℕ → ℕ → Type 0
+HasSegment image place =
+    HasCommand image place × (k : ℕ) × (slice_get (all_segment_loads image) k ≡ Some place)
+
+abbrev pub HasByte : List ℕ → ℕ → Type 0
+HasByte image place = place < length image
+
+-- that something is explained is not promised
+abbrev pub Unpromised : List ℕ → ℕ → Type 0
+Unpromised bytes place = ⊥
+
+-- What is shown: of a rule that is judged over the file, by the index of a slice; of one that is judged over each
+-- image. First what the rule is about, then what its numbers, and both parts, are.
+pub data Shown : Type 1 where
+  OfFile : (List ℕ → ℕ → Type 0) → (List ℕ → ℕ → Option ℕ → Conflict → Type 0) → Shown
+  OfImage : (List ℕ → ℕ → Type 0) → (List ℕ → ℕ → Conflict → Type 0) → Shown
 
 -- the slice with the index has P
-abbrev pub OfSlice : List ℕ → ℕ → (FileSlice → Type 0) → Type 0
-OfSlice file index P = (slice : FileSlice) × (slice_get (slices_of file) index ≡ Some slice) × P slice
+abbrev pub OfSlice : List ℕ → Option ℕ → (FileSlice → Type 0) → Type 0
+OfSlice file index P =
+    IsSomeAnd index (λ k. IsSomeAnd (slice_get (slices_of file) k) P)
 
--- what is shown of a rule of the file that is broken at a place, by the slice with the index
-abbrev pub ShowsFile : Rule → List ℕ → ℕ → ℕ → Conflict → Type 0
-ShowsFile rule.Magic file place index c = (place ≡ 0) × (c.limit ≡ loader.MH_MAGIC_64)
-ShowsFile rule.FatTruncated file place index c = (place ≡ 4) × (c.limit ≡ length file)
-ShowsFile rule.FatSliceOutside file place index c =
-    OfSlice file index (λ slice. (c.value ≡ written (slice.start + slice.size)) × (c.limit ≡ length file))
-ShowsFile rule.FatSliceInTable file place index c =
-    OfSlice file index (λ slice. c.value ≡ slice.start)
-ShowsFile rule.FatAlign file place index c = OfSlice file index (λ slice. c.value ≡ slice.start)
-ShowsFile rule.FatOverlap file place index c = Share c × (c.second.index < c.first.index)
-ShowsFile rule.FatDuplicate file place index c =
-    (c.value ≡ c.limit) × (c.second.index < c.first.index)
-ShowsFile rule.FatSliceMagic file place index c = OfSlice file index (λ slice. slice.start ≡ place)
-ShowsFile rule.FatEmpty file place index c = place ≡ 4
-ShowsFile rule.FatStrayByte file place index c =
-    (slice_get file place ≡ Some c.value) × (c.limit ≡ 0)
-ShowsFile other file place index c = Unit {0}
-
--- The indices are those of what has the place. Of a walk over the commands that breaks off, it is the index
--- that a command would have there.
-pub record IsSpot (image : List ℕ) (place : ℕ) (spot : Spot) : Type 0 where
-  pub command : (spot.command ≡ no_index) ⊎ IsCommandAt image spot.command place
-      ⊎ (spot.command ≡ length (all_loads image))
-  pub section : (spot.section ≡ no_index) ⊎ IsSectionAt image spot.section place
-  pub symbol : (spot.symbol ≡ no_index) ⊎ IsSymbolAt image spot.symbol place
-
--- what is found at a place of an image
-abbrev pub IsFound : Rule → List ℕ → ℕ → Spot × Conflict → Type 0
-IsFound rule image place found = IsSpot image place found.0 × ShowsConflict rule image place found.1
+abbrev pub shown : Rule → Shown
+shown rule.Magic = OfFile HasStart (λ file place index c. (place ≡ 0) × (c.limit ≡ loader.MH_MAGIC_64))
+shown rule.FatTruncated = OfFile Unpromised (λ file place index c. (place ≡ 4) × (c.limit ≡ length file))
+shown rule.FatSliceOutside = OfFile Unpromised (λ file place index c. OfSlice file index (λ slice. (c.value ≡ written (slice.start + slice.size)) × (c.limit ≡ length file)))
+shown rule.FatSliceInTable = OfFile Unpromised (λ file place index c. OfSlice file index (λ slice. c.value ≡ slice.start))
+shown rule.FatAlign = OfFile Unpromised (λ file place index c. OfSlice file index (λ slice. c.value ≡ slice.start))
+shown rule.FatOverlap = OfFile Unpromised (λ file place index c. Share c × IsBefore c)
+shown rule.FatDuplicate = OfFile Unpromised (λ file place index c. (c.value ≡ c.limit) × IsBefore c)
+shown rule.FatSliceMagic = OfFile Unpromised (λ file place index c. OfSlice file index (λ slice. slice.start ≡ place) × (c.limit ≡ loader.MH_MAGIC_64))
+shown rule.FatEmpty = OfFile Unpromised (λ file place index c. (place ≡ 4) × (c.value ≡ 0) × (c.limit ≡ 1))
+shown rule.HeaderTruncated = OfImage HasHeader (λ image place c. (c.value ≡ 32) × (c.limit ≡ length image))
+shown rule.ArchMismatch = OfImage Unpromised (λ image place c. IsArchOf (word_at image 4) c.value)
+shown rule.FileType = OfImage HasHeader (λ image place c. (c.value ≡ word_at image 12) × (c.limit ≡ 0))
+shown rule.CommandsOutside = OfImage HasHeader (λ image place c. (c.value ≡ 32 + word_at image 20) × (c.limit ≡ length image))
+shown rule.CommandWalk = OfImage Unpromised (λ image place c. IsWalkShown image place c.value c.limit)
+shown rule.CommandShort = OfImage HasCommand (λ image place c. c.value ≡ command_size image place)
+shown rule.CommandRepeated = OfImage Unpromised (λ image place c. (c.value ≡ command_cmd image place) × (c.limit ≡ command_cmd image place) × IsBefore c)
+shown rule.DylibId = OfImage HasHeader (λ image place c. MatchOption c.second (c.value ≡ 0) (λ command. c.value ≡ 1))
+shown rule.Name = OfImage HasCommand (λ image place c. c.value ≡ word_at image (place + 8))
+shown rule.SegmentAddress = OfImage HasSegment (λ image place c. (c.value ≡ vmsize image place) × (c.limit ≡ written (2 ^ 64 - vmaddr image place)))
+shown rule.SegmentSize = OfImage HasSegment (λ image place c. (c.value ≡ filesize image place) × (c.limit ≡ vmsize image place))
+shown rule.SegmentFile = OfImage HasSegment (λ image place c. (c.value ≡ written (fileoff image place + filesize image place)) × (c.limit ≡ length image))
+shown rule.SegmentOverlap = OfImage Unpromised (λ image place c. Share c)
+shown rule.SectionAddress = OfImage Unpromised (λ image place c. (segment : ℕ) × ShowsOutsideMemory image segment place c.value c.limit)
+shown rule.SectionFile = OfImage Unpromised (λ image place c. (segment : ℕ) × ShowsMisplaced image segment place c.value c.limit)
+shown rule.SectionRelocs = OfImage Unpromised (λ image place c. (c.value ≡ reloff image place + 8 * nreloc image place) × (c.limit ≡ length image))
+shown rule.TableRange = OfImage Unpromised (λ image place c. (c.limit ≡ length image) × (c.limit ≤ c.value))
+shown rule.SymbolGroup = OfImage Unpromised (λ image place c. c.limit < c.value)
+shown rule.SymbolName = OfImage Unpromised (λ image place c. c.value ≡ n_strx image place)
+shown rule.SymbolSection = OfImage Unpromised (λ image place c. (c.value ≡ n_sect image place) × (c.limit ≡ section_count image (commands_of image)))
+shown rule.IndirectIndex = OfImage Unpromised (λ image place c. c.value ≡ word_at image place)
+shown rule.Entry = OfImage HasCommand (λ image place c. IsEntryPointShown image place c)
+shown rule.FatStrayByte = OfFile Unpromised (λ file place index c. IsByteShown file place c)
+shown rule.CommandsEnd = OfImage Unpromised (λ image place c. c.limit ≡ 32 + word_at image 20)
+shown rule.HeaderSegment = OfImage HasHeader (λ image place c. c.value ≡ 32 + word_at image 20)
+shown rule.SegmentFileOverlap = OfImage Unpromised (λ image place c. Share c)
+shown rule.ElementOverlap = OfImage Unpromised (λ image place c. SharesOrPasses image c)
+shown rule.StrayByte = OfImage Unpromised (λ image place c. IsByteShown image place c)
+shown rule.EncryptedRange = OfImage Unpromised (λ image place c. (c.limit ≡ 32 + word_at image 20) ⊎ (c.limit ≡ 0) ⊎ IsFileEnd image c.limit)
+shown rule.CommandSlack = OfImage Unpromised (λ image place c. IsByteShown image place c)
+shown rule.UnclaimedByte = OfImage Unpromised (λ image place c. IsByteShown image place c)
+shown rule.TableRepeated = OfImage Unpromised (λ image place c. (c.value ≡ command_cmd image place) × (share_kind c.limit c.value ≡ true) × IsBefore c)
+shown rule.FunctionVariants = OfImage HasCommand (λ image place c. (c.value ≡ command_cmd image place) × (c.limit ≡ 0))
+shown rule.TableHome = OfImage Unpromised (λ image place c. IsHomelessShown image c)
+shown rule.HeaderHome = OfImage HasHeader (λ image place c. (c.limit ≡ 1) ⊎ ((segment : ℕ) × (c.limit ≡ vmaddr image segment)))
+shown rule.RebaseOpcode = OfImage Unpromised (λ image place c. (slice_get image place ≡ Some c.value) × (c.limit ≡ 143))
+shown rule.RebaseSlot = OfImage Unpromised (λ image place c. (c.limit ≡ 0) ⊎ IsFileSize image c.limit)
+shown rule.RebaseTotal = OfImage Unpromised (λ image place c. c.limit ≡ written (budget_of image))
+shown rule.BindOpcode = OfImage Unpromised (λ image place c. (slice_get image place ≡ Some c.value) × (c.limit ≡ 207))
+shown rule.BindLibrary = OfImage Unpromised (λ image place c. c.limit ≡ library_count image)
+shown rule.BindSymbol = OfImage Unpromised (λ image place c. c.limit ≡ 0)
+shown rule.BindSlot = OfImage Unpromised (λ image place c. (c.limit ≡ 0) ⊎ IsFileSize image c.limit)
+shown rule.BindTotal = OfImage Unpromised (λ image place c. c.limit ≡ written (budget_of image))
+shown rule.BindNames = OfImage Unpromised (λ image place c. c.limit ≤ length image)
+shown rule.ChainHeader = OfImage Unpromised (λ image place c. IsChainSize image c.value × (c.limit ≡ chained.DYLD_CHAINED_FIXUPS_HEADER_SIZE))
+shown rule.ChainStarts = OfImage Unpromised (λ image place c. IsChainSize image c.limit ⊎ ((c.value ≡ word_at image place) × (c.limit ≡ length (all_segments image))))
+shown rule.ChainImports = OfImage Unpromised (λ image place c. IsChainSize image c.limit)
+shown rule.ChainTotal = OfImage Unpromised (λ image place c. IsChainSize image c.limit)
+shown rule.ChainLibrary = OfImage Unpromised (λ image place c. c.limit ≡ library_count image)
+shown rule.ChainSlot = OfImage Unpromised (λ image place c. 8 ≤ c.value)
+shown rule.ChainBind = OfImage Unpromised (λ image place c. Binds image place c.value)
+shown rule.ExportNode = OfImage Unpromised (λ image place c. InTable image place (λ trie offset. (c.value ≡ offset) × (c.limit ≡ length trie)))
+shown rule.ExportTotal = OfImage Unpromised (λ image place c. InTable image place (λ trie offset. HasNode trie offset (λ terminal end. c.value ≡ end - offset) × (c.limit ≡ length trie)))
+shown rule.ExportTerminal = OfImage Unpromised (λ image place c. InTable image place (λ trie offset. HasNode trie offset (λ terminal end. c.value ≡ flags_shown trie terminal)) × (c.limit ≡ 0x1f))
+shown rule.ExportLibrary = OfImage Unpromised (λ image place c. InTable image place (λ trie offset. HasNode trie offset (λ terminal end. HasExportTarget trie terminal (HasOrdinal c.value))) × (c.limit ≡ library_count image))
+shown rule.ExportAddress = OfImage Unpromised (λ image place c. InTable image place (λ trie offset. HasNode trie offset (λ terminal end. HasExportTarget trie terminal (LeadsTo image c.value))) × (c.limit ≡ 0))
+shown rule.FunctionNumber = OfImage Unpromised (λ image place c. IsByteShown image place c)
+shown rule.FunctionStart = OfImage Unpromised (λ image place c. IsFunctionShown image place c.value)
+shown rule.DataInCode = OfImage Unpromised (λ image place c. (c.limit ≡ loader.DATA_IN_CODE_ENTRY_SIZE) ⊎ IsEntryShown (entry_at image place) c)
+shown rule.SignatureBlob = OfImage Unpromised (λ image place c. ShowsSignature image place c.value c.limit IsSuperblobShown (λ start. IsBlobShown))
+shown rule.SignatureDirectory = OfImage Unpromised (λ image place c. ShowsSignature image place c.value c.limit (λ signature value limit. (value ≡ 0) × (limit ≡ 1)) (λ start signature k. IsUnsoundShown start (bytes_at signature k)))
+shown rule.SignatureWhole = OfImage Unpromised (λ image place c. ShowsSignature image place c.value c.limit (λ signature value limit. ⊥) IsLimitShown)
+shown rule.SymbolLibrary = OfImage Unpromised (λ image place c. (c.value ≡ library_ordinal (symbol_at image place)) × (c.limit ≡ library_count image))
+shown rule.SymbolValue = OfImage Unpromised (λ image place c. (c.value ≡ (symbol_at image place).value) × (c.limit ≡ 0))
+shown rule.SymbolIndirect = OfImage Unpromised (λ image place c. c.value ≡ (symbol_at image place).value)
+shown rule.Relocation = OfImage Unpromised (λ image place c. IsRelocationShown (relocation_at image place) c)
+shown rule.Thread = OfImage HasCommand (λ image place c. IsThreadShown image place c)
+shown rule.CommandContent = OfImage HasCommand (λ image place c. c.value ≡ command_size image place)
+shown rule.SignatureMissing = OfImage HasStart (λ image place c. (place ≡ 0) × (c.value ≡ 0) × (c.limit ≡ 1))
+shown rule.DirectoryRepeated = OfImage Unpromised (λ image place c. IsRepeatShown image place c.value × (c.limit ≡ c.value) × IsBefore c)
+shown rule.SignatureSlack = OfImage Unpromised (λ image place c. IsByteShown image place c)
+shown rule.SignatureHash = OfImage Unpromised (λ image place c. ShowsHash image place c.value c.limit)

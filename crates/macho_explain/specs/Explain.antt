@@ -1,10 +1,10 @@
 -- What explains a refusal: what is at the place, and the numbers that a rule compares. (kesvuot.h: struct
 -- kesvuot_explanation)
-use Rattle.std.specs.Prelude.{◌≡◌, ℕ, ◌+◌, ◌-◌, ◌*◌, ◌^◌, ◌≤◌, ◌<◌, List, map, take, Some, slice_get, true}
+use Rattle.std.specs.Prelude.{◌≡◌, ◌≢◌, ℕ, ◌+◌, ◌-◌, ◌*◌, ◌^◌, ◌≤◌, ◌<◌, ◌⊎◌, List, length, map, take, Some, IfSome, slice_get, true}
 use Rattle.std.specs.List.{sum_by}
 use Rattle.std.specs.Option.{unwrap_or}
 use Rattle.macho_fields.specs.Field.{field}
-use Rattle.macho_fields.specs.Image.{command_size, commands_of}
+use Rattle.macho_fields.specs.Image.{command_cmd, command_size, commands_of}
 use Rattle.macho_fields.specs.Segment.{vmaddr, vmsize, fileoff, filesize, section_address, section_size, section_offset, reloff, nreloc}
 use Rattle.macho_fields.specs.Universal.{FileSlice}
 use Rattle.macho_fields.specs.declared.bytes.Order.TheVariants.{Little}
@@ -28,10 +28,6 @@ use Rattle.macho_explain.specs.declared.walk.Walked.{Walked}
 use Rattle.macho_rows.specs.declared.load.Load.{Load}
 use Rattle.macho_rows.specs.declared.load.Wanted.TheVariants as wanted
 
--- KESVUOT_NO_INDEX
-abbrev pub no_index : ℕ
-no_index = 2 ^ 32 - 1
-
 -- the number in the word at a place, and in the 8 bytes there, 0 where these are not all inside
 abbrev pub word_at : List ℕ → ℕ → ℕ
 word_at image place = unwrap_or (field Little 4 image place) 0
@@ -46,6 +42,10 @@ image_of file slice = part_or_none slice.start slice.size file
 -- the load commands of any bytes, as many as can be walked to: those of kesvuot_read_commands
 abbrev pub all_loads : List ℕ → List ℕ
 all_loads image = wanted_left wanted.All image first_cursor
+
+-- those that are segments, and hold their sections
+abbrev pub all_segment_loads : List ℕ → List ℕ
+all_segment_loads image = wanted_left wanted.Segments image first_cursor
 
 -- how many sections the first of them have, so many
 abbrev pub sections_before : List ℕ → ℕ → ℕ
@@ -74,14 +74,27 @@ IsSymbolAt image index place =
 
 -- What only proofs need.
 
--- the command is the one that is sought
-abbrev pub Meets : Sought → Load → Type 0
-Meets (sought.At place) load = (load.place ≤ place) × (place < load.place + load.size)
-Meets (sought.First cmd) load = load.cmd ≡ cmd
-Meets (sought.OfKind cmd) load = share_kind load.cmd cmd ≡ true
+-- the command at a place is one that is sought
+abbrev pub Meets : List ℕ → Sought → ℕ → Type 0
+Meets image (sought.From place) command = command ≡ place
+Meets image (sought.At place) command =
+    (command ≤ place) × (place < command + command_size image command)
+Meets image (sought.First cmd) command = command_cmd image command ≡ cmd
+Meets image (sought.OfKind cmd) command = share_kind (command_cmd image command) cmd ≡ true
+
+-- no command is
+abbrev pub NoneMeets : List ℕ → Sought → Type 0
+NoneMeets image which =
+    (k command : ℕ) → slice_get (all_loads image) k ≡ Some command → ¬ Meets image which command
+
+-- there are more commands, or sections, than are counted: no file has so many
+abbrev pub IsUncounted : List ℕ → Type 0
+IsUncounted image =
+    (2 ^ 32 ≤ length (all_loads image)) ⊎ ((k : ℕ) × (2 ^ 64 ≤ sections_before image k))
 
 -- the cmd of the command that is sought
 abbrev pub MeetsLimit : Sought → ℕ → Type 0
+MeetsLimit (sought.From place) cmd = Unit {0}
 MeetsLimit (sought.At place) cmd = Unit {0}
 MeetsLimit (sought.First wanted) cmd = cmd ≡ wanted
 MeetsLimit (sought.OfKind wanted) cmd = share_kind cmd wanted ≡ true
@@ -91,8 +104,7 @@ pub record IsWalked (image : List ℕ) (which : Sought) (walked : Walked) : Type
   pub listed : slice_get (all_loads image) walked.index ≡ Some walked.load.place
   pub load : IsLoad image walked.load
   pub past : 32 ≤ walked.load.place
-  pub meets : Meets which walked.load
-  pub few : walked.index < no_index
+  pub meets : Meets image which walked.load.place
   pub sections : walked.sections ≡ sections_before image walked.index
 
 -- the fields bound a table by its bytes, in a field of 32 bits
@@ -112,7 +124,26 @@ abbrev pub MeetsSegment : SegmentWith → SegmentAt → Type 0
 MeetsSegment (with.Command place) segment = segment.place ≡ place
 MeetsSegment (with.Address address) segment =
     (segment.row.vmaddr ≤ address) × (address < segment.row.vmaddr + segment.row.vmsize)
-MeetsSegment other segment = Unit {0}
+MeetsSegment with.Base segment = Unit {0}
+MeetsSegment with.Start segment = Unit {0}
+MeetsSegment (with.FileByte place) segment = Unit {0}
+MeetsSegment (with.SharingMemory span end) segment = Unit {0}
+MeetsSegment (with.SharingFile span end) segment = Unit {0}
+
+-- the segment whose command is at a place is the one whose command is sought; nothing is said of what else is sought
+abbrev pub MayMeet : SegmentWith → ℕ → Type 0
+MayMeet (with.Command place) command = command ≡ place
+MayMeet with.Base command = ⊥
+MayMeet with.Start command = ⊥
+MayMeet (with.Address address) command = ⊥
+MayMeet (with.FileByte place) command = ⊥
+MayMeet (with.SharingMemory span end) command = ⊥
+MayMeet (with.SharingFile span end) command = ⊥
+
+-- no segment is
+abbrev pub NoSegmentMeets : List ℕ → SegmentWith → Type 0
+NoSegmentMeets image wanted =
+    (k command : ℕ) → slice_get (all_segment_loads image) k ≡ Some command → ¬ MayMeet wanted command
 
 -- the segment that is sought, with its fields
 pub record IsSegmentFound (image : List ℕ) (wanted : SegmentWith) (segment : SegmentAt) : Type 0 where
@@ -130,4 +161,4 @@ pub record IsSectionRow (image : List ℕ) (section : SectionAt) : Type 0 where
 -- the section that has a place, with its fields
 pub record IsSectionFound (image : List ℕ) (place : ℕ) (section : SectionAt) : Type 0 where
   pub row : IsSectionRow image section
-  pub at : IsSectionAt image section.index place
+  pub at : IfSome section.index (λ index. IsSectionAt image index place)

@@ -1,12 +1,12 @@
 -- The parts of a file, and what conflicts. (kesvuot.h: struct kesvuot_part)
-use Rattle.std.specs.Prelude.{ℕ, ◌+◌, ◌-◌, ◌^◌, min}
-use Rattle.macho_explain.specs.declared.explanation.Explanation.{Explanation}
+use Rattle.std.specs.Prelude.{◌≡◌, ℕ, ◌+◌, ◌-◌, ◌^◌, ◌≤◌, ◌<◌, min, Option, Some, None, IsSomeAnd}
+use Rattle.macho_spans.specs.declared.span.Span.{Span}
 use Rattle.macho_explain.specs.declared.conflict.Conflict.{Conflict}
 use Rattle.macho_explain.specs.declared.part.Part.{Part}
+use Rattle.macho_explain.specs.declared.part.PartKind.{PartKind}
 use Rattle.macho_explain.specs.declared.spot.Spot.{Spot}
-use Rattle.macho_explain.specs.Explain.{no_index}
 
-abbrev pub part_of : ℕ → ℕ → ℕ → ℕ → ℕ → Part
+abbrev pub part_of : PartKind → Option ℕ → ℕ → ℕ → ℕ → Part
 part_of kind index start size described = record {
   start = start;
   size = size;
@@ -15,37 +15,36 @@ part_of kind index start size described = record {
   index = index;
 }
 
-abbrev pub no_part : Part
-no_part = part_of 0 no_index 0 0 0
-
 -- where a place of an image is in the file, in which the image begins at the first number: at most
 -- 2^64 - 1
 abbrev pub place_in_file : ℕ → ℕ → ℕ
 place_in_file begin place = min (begin + place) (2 ^ 64 - 1)
 
-abbrev pub conflict_of : Part → Part → ℕ → ℕ → Conflict
+-- the part is that of a span of an image that begins there in the file
+abbrev pub IsPartOf : ℕ → Span → Part → Type 0
+IsPartOf begin span part = (part.start ≡ place_in_file begin span.start) × (part.size ≡ span.len)
+
+abbrev pub conflict_of : Option Part → Option Part → ℕ → ℕ → Conflict
 conflict_of first second value limit =
     record { first = first; second = second; value = value; limit = limit }
 
 -- a part outside all commands
-abbrev pub spot_of : Part → Spot
-spot_of at =
-    record { at = at; command = no_index; section = no_index; symbol = no_index }
+abbrev pub spot_of : Option ℕ → Part → Spot
+spot_of slice part =
+    record { part = part; slice = slice; command = None; section = None; symbol = None }
 
--- the explanation by what is at a place, and what conflicts there
-abbrev pub explanation_of : ℕ → Spot → Conflict → Explanation
-explanation_of slice spot conflict = record {
-  at = spot.at;
-  first = conflict.first;
-  second = conflict.second;
-  value = conflict.value;
-  limit = conflict.limit;
-  slice = slice;
-  command = spot.command;
-  section = spot.section;
-  symbol = spot.symbol;
-}
+-- what a number conflicts with is of a smaller index
+abbrev pub IsBefore : Conflict → Type 0
+IsBefore c = IsSomeAnd c.first (λ one. IsSomeAnd c.second (λ other.
+    IsSomeAnd one.index (λ k. IsSomeAnd other.index (λ j. j < k))))
 
--- nothing is explained
-abbrev pub nothing : Explanation
-nothing = explanation_of no_index (spot_of no_part) (conflict_of no_part no_part 0 0)
+-- both parts have the bytes, or addresses, from the value up to the limit
+pub record SharesAll (one other : Part) (value limit : ℕ) : Type 0 where
+  pub some : value ≤ limit
+  pub first_from : one.start ≤ value
+  pub first_to : limit < one.start + one.size
+  pub second_from : other.start ≤ value
+  pub second_to : limit < other.start + other.size
+
+abbrev pub Share : Conflict → Type 0
+Share c = IsSomeAnd c.first (λ one. IsSomeAnd c.second (λ other. SharesAll one other c.value c.limit))

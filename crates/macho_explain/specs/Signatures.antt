@@ -4,8 +4,6 @@ use Rattle.std.specs.Prelude.{◌≡◌, ◌≢◌, ℕ, ◌+◌, ◌*◌, ◌�
 use Rattle.macho_fields.specs.Field.{part}
 use Rattle.macho_fields.specs.Image.{command_cmd}
 use Rattle.macho_fields.specs.declared.header.loader.TheConstants as loader
-use Rattle.macho_fields.specs.declared.rule.Rule.{Rule}
-use Rattle.macho_fields.specs.declared.rule.Rule.TheVariants as rule
 use Rattle.macho_spans.specs.Span.{end_of}
 use Rattle.macho_spans.specs.declared.span.Span.{Span}
 use Rattle.macho_signature.specs.CodeDirectories.{code_directory, fields_size, scatter_offset, size_of_hash, slots_of, version_of, HasName}
@@ -85,24 +83,12 @@ IsUnsoundShown start blob value limit =
     IsFormShown blob value limit
     ⊎ IsSomeAnd (code_directory blob) (λ directory. IsSoundnessShown start blob directory value limit)
 
--- The rules
-
--- of the whole table: why it has no superblob; or how many code directories are in the slot 0, of which there has to be
--- one
-abbrev pub ShowsTable : Rule → List ℕ → ℕ → ℕ → Type 0
-ShowsTable rule.SignatureBlob signature value limit = IsSuperblobShown signature value limit
-ShowsTable rule.SignatureDirectory signature value limit = (value ≡ 0) × (limit ≡ 1)
-ShowsTable other signature value limit = ⊥
-
--- of the entry k: why its blob is misplaced; why it is no sound code directory; or up to where that covers the image,
--- and where the signature begins
-abbrev pub ShowsEntry : Rule → ℕ → List ℕ → ℕ → ℕ → ℕ → Type 0
-ShowsEntry rule.SignatureBlob start signature k value limit = IsBlobShown signature k value limit
-ShowsEntry rule.SignatureDirectory start signature k value limit =
-    IsUnsoundShown start (bytes_at signature k) value limit
-ShowsEntry rule.SignatureWhole start signature k value limit =
+-- up to where a code directory covers the image, and where the signature begins
+abbrev pub IsLimitShown : ℕ → List ℕ → ℕ → ℕ → ℕ → Type 0
+IsLimitShown start signature k value limit =
     IsSomeAnd (code_directory (bytes_at signature k)) (λ directory. Differ value limit directory.limit start)
-ShowsEntry other start signature k value limit = ⊥
+
+-- The rules
 
 -- the table that a linkedit_data_command with this cmd names: dataoff at 8, datasize at 12
 abbrev pub IsTableOfCommand : List ℕ → ℕ → Span → Type 0
@@ -111,15 +97,22 @@ IsTableOfCommand image cmd table =
     × (command_cmd image command ≡ cmd)
     × (table.start ≡ word_at image (command + 8)) × (table.len ≡ word_at image (command + 12))
 
+-- its size alone
+abbrev pub IsSizeOfTable : List ℕ → ℕ → ℕ → Type 0
+IsSizeOfTable image cmd size =
+    (index : ℕ) × (command : ℕ) × (slice_get (all_loads image) index ≡ Some command)
+    × (command_cmd image command ≡ cmd) × (size ≡ word_at image (command + 12))
+
 -- the signature of an image, which lies in it
 abbrev pub IsSignatureOf : List ℕ → Span → List ℕ → Type 0
 IsSignatureOf image table signature =
     IsTableOfCommand image loader.LC_CODE_SIGNATURE table × (end_of table ≤ length image)
     × (signature ≡ part table.start table.len image)
 
--- what is shown of a rule that is broken at a place of the image: at the first byte of its signature, or at an entry
-abbrev pub ShowsSignature : Rule → List ℕ → ℕ → ℕ → ℕ → Type 0
-ShowsSignature rule image place value limit =
+-- what is shown of a rule that is broken at a place of the image: at the first byte of its signature P, and at the entry
+-- k of one that begins at a place of the image Q
+abbrev pub ShowsSignature : List ℕ → ℕ → ℕ → ℕ → (List ℕ → ℕ → ℕ → Type 0) → (ℕ → List ℕ → ℕ → ℕ → ℕ → Type 0) → Type 0
+ShowsSignature image place value limit P Q =
     (table : Span) × (signature : List ℕ) × IsSignatureOf image table signature
-    × (((place ≡ table.start) × ShowsTable rule signature value limit)
-    ⊎ ((k : ℕ) × (place ≡ table.start + entry_offset k) × ShowsEntry rule table.start signature k value limit))
+    × (((place ≡ table.start) × P signature value limit)
+    ⊎ ((k : ℕ) × (place ≡ table.start + entry_offset k) × Q table.start signature k value limit))

@@ -4,19 +4,16 @@ ghost use Rattle.std.specs.Prelude.{◌≡◌, ◌<◌, IfSome};
 ghost use Rattle.macho_fields.specs.Bytes.{bytes_of};
 ghost use Rattle.macho_fields.specs.declared.rule.Rule.{Rule};
 ghost use Rattle.macho_chains.specs.ChainImports.{ImportsEndPast};
-ghost use Rattle.macho_explain.specs.Compared.{IsChainSize, IsFound, IsSpot};
+ghost use Rattle.macho_explain.specs.Compared.{IsChainSize};
+ghost use Rattle.macho_explain.specs.Explained.{Explains, ExplainsIn, IsSpot};
 
+use crate::command::command_here;
 use crate::conflict::Conflict;
-use crate::part::{
-    CHAIN_ARRAY, CHAIN_ENTRY, CHAIN_HEADER, CHAIN_IMPORT, CHAIN_STARTS, NO_INDEX, Part, below_zero,
-    clamped,
-};
-use crate::pointers::{chain_bind, chain_slot};
+use crate::explanation::Explanation;
+use crate::part::{Part, PartKind, below_zero, clamped};
 use crate::segment::segment_at;
 use crate::sliced::Sliced;
-use crate::spot::{Spot, command_spot};
-use crate::table::{Bounded, table_by, tables_of};
-use crate::walk::{Sought, walk_to};
+use crate::table::{Bounded, data_table};
 use macho_chains::chain_header::ChainHeader;
 use macho_chains::chain_imports::{Ordinal, name_size};
 use macho_chains::chain_starts::{SegmentStarts, segment_count};
@@ -25,8 +22,8 @@ use macho_fields::header::fixup_chains::{
     DYLD_CHAINED_STARTS_IN_SEGMENT_SIZE, SEG_INFO_OFFSET_SIZE,
 };
 use macho_fields::header::loader::LC_DYLD_CHAINED_FIXUPS;
-use macho_fields::{Bytes, Order, Rule, Span};
-use macho_opcodes::stream::Limits;
+use macho_fields::{Bytes, Order, Span};
+use macho_tables::limits::library_count;
 
 // The table of chained fixups, its bytes, and what its header says.
 #[derive(Clone, Copy)]
@@ -36,139 +33,97 @@ pub(crate) struct Chains<'a> {
     pub(crate) header: ChainHeader,
 }
 
-// Explains a rule of the table of chained fixups that is broken at the place.
-pub(crate) fn explain_chains(sliced: &Sliced, rule: Rule, place: u64) -> Option<(Spot, Conflict)>
-    ensures { IfSome result (IsFound rule (bytes_of sliced.now.held.bytes) place) }
+// The table of chained fixups, if its header can be read.
+pub(crate) fn chains_of<'a>(sliced: &Sliced<'a>) -> Option<Chains<'a>>
+    ensures { IfSome result (λ chains. IsChainSize (bytes_of sliced.now.held.bytes) chains.table.span.len) }
 {
-    let (command, table) = chain_table(sliced)?;
-    if rule == Rule::ChainHeader {
-        return chain_header(sliced, command, &table, place);
-    }
+    let table = data_table(sliced, LC_DYLD_CHAINED_FIXUPS)?;
     let bytes = Bytes::new(sliced.held.bytes.part(table.span)?);
     let header = ChainHeader::read(bytes)?;
-    let chains = Chains {
+    Some(Chains {
         table,
         bytes,
         header,
-    };
-    match rule {
-        Rule::ChainStarts => chain_starts(sliced, &chains, place),
-        Rule::ChainImports => chain_imports(sliced, &chains, place),
-        Rule::ChainTotal => chain_total(sliced, &chains, place),
-        Rule::ChainLibrary => chain_library(sliced, &chains, place),
-        Rule::ChainSlot => chain_slot(sliced, &chains, place),
-        Rule::ChainBind => chain_bind(sliced, &chains, place),
-        _ => None,
-    }
+    })
 }
 
-// Where the command begins that names the table, and the table, which may have no bytes.
-fn chain_table(sliced: &Sliced) -> Option<(u64, Bounded)>
-    ensures { IfSome result (λ found. IsChainSize (bytes_of sliced.now.held.bytes) found.1.span.len) }
-{
-    let walked = walk_to(sliced.held.bytes, Sought::First(LC_DYLD_CHAINED_FIXUPS))?;
-    let fields = tables_of(LC_DYLD_CHAINED_FIXUPS).first()?;
-    let table = table_by(sliced, walked.load.place, *fields, 0);
-    Some((walked.load.place, table))
-}
-
-// Explains the header: there is no table, it is shorter, or a field is not known.
-fn chain_header(
-    sliced: &Sliced,
-    command: u64,
-    table: &Bounded,
-    place: u64,
-) -> Option<(Spot, Conflict)>
-    requires { IsChainSize (bytes_of sliced.now.held.bytes) table.now.span.len }
-    ensures { IfSome result (IsFound Rule.ChainHeader (bytes_of sliced.now.held.bytes) place) }
-{
-    let size = table.span.len;
-    if size == 0 {
-        let spot = at_command(sliced, command, place)?;
-        return Some((
-            spot,
-            Conflict::numbers(size, DYLD_CHAINED_FIXUPS_HEADER_SIZE),
-        ));
-    }
-    let at = header_at(sliced, table, place)?;
-    let conflict = Conflict::alone(table.part, size, DYLD_CHAINED_FIXUPS_HEADER_SIZE);
-    Some((Spot::of(at), conflict))
-}
-
-// The command, if it begins at the place.
-fn at_command(sliced: &Sliced, command: u64, place: u64) -> Option<Spot>
-    ensures { IfSome result (IsSpot (bytes_of sliced.now.held.bytes) place) }
-{
-    if place != command {
-        return None;
-    }
-    let walked = walk_to(sliced.held.bytes, Sought::At(place))?;
-    Some(command_spot(sliced, &walked, place))
-}
-
-// The header of a table that begins at the place, or all of a table that has fewer bytes.
+// The header of a table that begins at a place, or all of a table that has fewer bytes.
 pub(crate) fn header_at(sliced: &Sliced, table: &Bounded, place: u64) -> Option<Part> {
     if place != table.span.start {
         return None;
     }
     let size = table.span.len.min(DYLD_CHAINED_FIXUPS_HEADER_SIZE);
-    Some(sliced.structure(CHAIN_HEADER, place, size, NO_INDEX))
+    Some(sliced.structure(PartKind::ChainHeader, place, size, None))
 }
 
-// Explains the starts: the table ends before `seg_count` does, or what is at the place is broken.
-fn chain_starts(sliced: &Sliced, chains: &Chains, place: u64) -> Option<(Spot, Conflict)>
-    requires { IsChainSize (bytes_of sliced.now.held.bytes) chains.now.table.span.len }
-    ensures { IfSome result (IsFound Rule.ChainStarts (bytes_of sliced.now.held.bytes) place) }
+// The header: there is no table, it is shorter, or a field is not known.
+pub(crate) fn chain_header(sliced: &Sliced) -> Option<Explanation>
+    ensures { ExplainsIn Rule.ChainHeader sliced.now result }
 {
+    let table = data_table(sliced, LC_DYLD_CHAINED_FIXUPS)?;
+    let size = table.span.len;
+    if size == 0 && sliced.place == table.command {
+        let (at, _) = command_here(sliced)?;
+        return Some(at.shows(Conflict::numbers(size, DYLD_CHAINED_FIXUPS_HEADER_SIZE)));
+    }
+    let header = header_at(sliced, &table, sliced.place)?;
+    let conflict = Conflict::alone(table.part, size, DYLD_CHAINED_FIXUPS_HEADER_SIZE);
+    Some(sliced.at(header).shows(conflict))
+}
+
+// The starts: the table ends before `seg_count` does, or what is at the place is broken.
+pub(crate) fn chain_starts(sliced: &Sliced) -> Option<Explanation>
+    ensures { ExplainsIn Rule.ChainStarts sliced.now result }
+{
+    let chains = chains_of(sliced)?;
     let table = &chains.table;
     let starts_offset = u64::from(chains.header.starts_offset);
     let entries = starts_offset + DYLD_CHAINED_STARTS_IN_IMAGE_SIZE;
     if entries > table.span.len {
-        let at = header_at(sliced, table, place)?;
+        let header = header_at(sliced, table, sliced.place)?;
         let conflict = Conflict::alone(table.part, entries, table.span.len);
-        return Some((Spot::of(at), conflict));
+        return Some(sliced.at(header).shows(conflict));
     }
-    if place == table.span.start.saturating_add(starts_offset) {
-        at_array(sliced, chains, place)
+    if sliced.place == table.span.start.saturating_add(starts_offset) {
+        at_array(sliced, &chains)
     } else {
-        at_entry(sliced, chains, place)
+        at_entry(sliced, &chains)
     }
 }
 
 // The array of the segments, at the place.
-fn at_array(sliced: &Sliced, chains: &Chains, place: u64) -> Option<(Spot, Conflict)>
-    ensures { IfSome result (IsFound Rule.ChainStarts (bytes_of sliced.now.held.bytes) place) }
+fn at_array(sliced: &Sliced, chains: &Chains) -> Option<Explanation>
+    ensures { IfSome result (Explains Rule.ChainStarts sliced.now) }
 {
     let segments = segment_count(&sliced.held.open()?);
-    let count = u64::from(sliced.word(place));
-    let at = sliced.structure(
-        CHAIN_ARRAY,
-        place,
-        DYLD_CHAINED_STARTS_IN_IMAGE_SIZE,
-        NO_INDEX,
-    );
+    let count = u64::from(sliced.word(sliced.place));
+    let size = DYLD_CHAINED_STARTS_IN_IMAGE_SIZE;
+    let array = sliced.structure(PartKind::ChainArray, sliced.place, size, None);
     let conflict = Conflict::alone(chains.table.part, count, segments);
-    Some((Spot::of(at), conflict))
+    Some(sliced.at(array).shows(conflict))
 }
 
 // The entry at the place, and the starts of its segment.
-fn at_entry(sliced: &Sliced, chains: &Chains, place: u64) -> Option<(Spot, Conflict)>
+fn at_entry(sliced: &Sliced, chains: &Chains) -> Option<Explanation>
     requires { IsChainSize (bytes_of sliced.now.held.bytes) chains.now.table.span.len }
-    ensures { IfSome result (IsFound Rule.ChainStarts (bytes_of sliced.now.held.bytes) place) }
+    ensures { IfSome result (Explains Rule.ChainStarts sliced.now) }
 {
     let Span { start, len } = chains.table.span;
-    let (index, offset) = chains.entry_at(place.checked_sub(start)?)?;
-    let image = sliced.held.open()?;
-    let segment = image.segments().nth(index as usize)?;
+    let (index, offset) = chains.entry_at(sliced.place.checked_sub(start)?)?;
+    let segment = sliced.held.open()?.segments().nth(index as usize)?;
     let span = Span {
         start: start.saturating_add(offset),
         len: starts_size(chains.bytes, offset),
     };
-    let starts = sliced.described(CHAIN_STARTS, span, place, index);
-    let part = segment_at(sliced, segment.place());
-    let at = sliced.structure(CHAIN_ENTRY, place, SEG_INFO_OFFSET_SIZE, index);
-    let end = offset.saturating_add(span.len);
-    Some((Spot::of(at), Conflict::of(starts, part, end, len)))
+    let starts = sliced.described(PartKind::ChainStarts, span, sliced.place, Some(index));
+    let size = SEG_INFO_OFFSET_SIZE;
+    let entry = sliced.structure(PartKind::ChainEntry, sliced.place, size, Some(index));
+    Some(
+        sliced.at(entry).shows(Conflict {
+            second: segment_at(sliced, segment.place()),
+            ..Conflict::alone(starts, offset.saturating_add(span.len), len)
+        }),
+    )
 }
 
 // How many bytes the starts at an offset of the table have, by their first field, `size`. They are those of the
@@ -184,67 +139,61 @@ fn starts_size(chains: Bytes, offset: u64) -> u64 {
     u64::from(chains.read_u32(Order::Little, offset))
 }
 
-// Explains the imports: they end past the table, or the name of the one at the place does not end.
-fn chain_imports(sliced: &Sliced, chains: &Chains, place: u64) -> Option<(Spot, Conflict)>
-    requires { IsChainSize (bytes_of sliced.now.held.bytes) chains.now.table.span.len }
-    ensures { IfSome result (IsFound Rule.ChainImports (bytes_of sliced.now.held.bytes) place) }
+// The imports: they end past the table, or the name of the one at the place does not end.
+pub(crate) fn chain_imports(sliced: &Sliced) -> Option<Explanation>
+    ensures { ExplainsIn Rule.ChainImports sliced.now result }
 {
-    let Chains {
-        table,
-        bytes,
-        header,
-    } = *chains;
+    let chains = chains_of(sliced)?;
+    let (table, header) = (chains.table, chains.header);
     let size = table.span.len;
-    if header.imports_end_past(bytes) {
-        let at = header_at(sliced, &table, place)?;
+    if header.imports_end_past(chains.bytes) {
+        let part = header_at(sliced, &table, sliced.place)?;
         let end = header.import_offset(header.imports_count);
-        return Some((Spot::of(at), Conflict::alone(table.part, end, size)));
+        return Some(
+            sliced
+                .at(part)
+                .shows(Conflict::alone(table.part, end, size)),
+        );
     }
-    let index = chains.import_at(place)?;
-    let name = header.name_start(bytes, index);
-    Some(at_import(sliced, chains, place, index, name, size))
+    let index = chains.import_at(sliced.place)?;
+    let name = header.name_start(chains.bytes, index);
+    Some(at_import(sliced, &chains, index, name, size))
 }
 
-// Explains the import at the place with which the names have more bytes than the table.
-fn chain_total(sliced: &Sliced, chains: &Chains, place: u64) -> Option<(Spot, Conflict)>
-    requires { IsChainSize (bytes_of sliced.now.held.bytes) chains.now.table.span.len }
-    ensures { IfSome result (IsFound Rule.ChainTotal (bytes_of sliced.now.held.bytes) place) }
+// The import at the place, with which the names have more bytes than the table.
+pub(crate) fn chain_total(sliced: &Sliced) -> Option<Explanation>
+    ensures { ExplainsIn Rule.ChainTotal sliced.now result }
 {
-    let index = chains.import_at(place)?;
+    let chains = chains_of(sliced)?;
+    let index = chains.import_at(sliced.place)?;
     let names = clamped(chains.names_size(index)?);
     let size = chains.table.span.len;
-    Some(at_import(sliced, chains, place, index, names, size))
+    Some(at_import(sliced, &chains, index, names, size))
 }
 
-// Explains the import at the place that is from no library.
-fn chain_library(sliced: &Sliced, chains: &Chains, place: u64) -> Option<(Spot, Conflict)>
-    ensures { IfSome result (IsFound Rule.ChainLibrary (bytes_of sliced.now.held.bytes) place) }
+// The import at the place, which is from no library.
+pub(crate) fn chain_library(sliced: &Sliced) -> Option<Explanation>
+    ensures { ExplainsIn Rule.ChainLibrary sliced.now result }
 {
-    let index = chains.import_at(place)?;
+    let chains = chains_of(sliced)?;
+    let index = chains.import_at(sliced.place)?;
     let ordinal = match chains.header.import(chains.bytes, index).ordinal {
         Ordinal::Library(number) => number,
         Ordinal::Special(below) => below_zero(below),
     };
-    let libraries = Limits::of(&sliced.held.open()?).libraries;
-    Some(at_import(sliced, chains, place, index, ordinal, libraries))
+    let libraries = library_count(&sliced.held.open()?);
+    Some(at_import(sliced, &chains, index, ordinal, libraries))
 }
 
 // The import with this index, at the place.
-fn at_import(
-    sliced: &Sliced,
-    chains: &Chains,
-    place: u64,
-    index: u32,
-    value: u64,
-    limit: u64,
-) -> (Spot, Conflict)
-    ensures spot { IsSpot (bytes_of sliced.now.held.bytes) place result.0 }
-    ensures limit { result.1.limit ≡ limit }
+fn at_import(sliced: &Sliced, chains: &Chains, index: u32, value: u64, limit: u64) -> Explanation
+    ensures spot { IsSpot sliced.now result.at }
+    ensures limit { result.conflict.limit ≡ limit }
 {
     let size = chains.header.imports_format.bits().size;
-    let at = sliced.structure(CHAIN_IMPORT, place, size, index);
+    let part = sliced.structure(PartKind::ChainImport, sliced.place, size, Some(index));
     let conflict = Conflict::alone(chains.table.part, value, limit);
-    (Spot::of(at), conflict)
+    sliced.at(part).shows(conflict)
 }
 
 impl Chains<'_> {

@@ -1,31 +1,33 @@
 //! Two parts that conflict, and the numbers that a rule compares.
 
-ghost use Rattle.std.specs.Prelude.{◌≡◌, ◌-◌, ◌^◌, ◌≤◌, min, IfSome, IfNone};
+ghost use Rattle.std.specs.Prelude.{◌≡◌, ◌-◌, ◌^◌, ◌≤◌, min, IfSome, IfNone, Some, None};
 ghost use Rattle.macho_spans.specs.Span.{Holds, Shares};
-ghost use Rattle.macho_explain.specs.Parts.{conflict_of, no_part};
+ghost use Rattle.macho_explain.specs.Parts.{conflict_of};
 ghost use Rattle.macho_rows.specs.Segments.{last_address};
 
-use crate::part::{NO_PART, Part, clamped};
+use crate::part::{Part, clamped};
 use macho_fields::Span;
 use macho_rows::segments::last_address;
 
-// What conflicts.
+/// What conflicts.
 #[derive(Clone, Copy)]
-pub(crate) struct Conflict {
-    pub(crate) first: Part,
-    pub(crate) second: Part,
-    pub(crate) value: u64,
-    pub(crate) limit: u64,
+pub struct Conflict {
+    /// What breaks the rule, and with what it conflicts.
+    pub first: Option<Part>,
+    pub second: Option<Part>,
+    /// The numbers that the rule compares.
+    pub value: u64,
+    pub limit: u64,
 }
 
 impl Conflict {
     // Two parts, and the numbers that show that they conflict.
     pub(crate) fn of(first: Part, second: Part, value: u64, limit: u64) -> Conflict
-        ensures { result ≡ conflict_of first second value limit }
+        ensures { result ≡ conflict_of (Some first) (Some second) value limit }
     {
         Conflict {
-            first,
-            second,
+            first: Some(first),
+            second: Some(second),
             value,
             limit,
         }
@@ -33,21 +35,39 @@ impl Conflict {
 
     // A part that conflicts with no other.
     pub(crate) fn alone(first: Part, value: u64, limit: u64) -> Conflict
-        ensures { result ≡ conflict_of first no_part value limit }
+        ensures { result ≡ conflict_of (Some first) None value limit }
     {
-        Conflict::of(first, NO_PART, value, limit)
+        Conflict {
+            first: Some(first),
+            ..Conflict::numbers(value, limit)
+        }
+    }
+
+    // What a number conflicts with.
+    pub(crate) fn against(second: Part, value: u64, limit: u64) -> Conflict
+        ensures { result ≡ conflict_of None (Some second) value limit }
+    {
+        Conflict {
+            second: Some(second),
+            ..Conflict::numbers(value, limit)
+        }
     }
 
     // Numbers alone.
     pub(crate) fn numbers(value: u64, limit: u64) -> Conflict
-        ensures { result ≡ conflict_of no_part no_part value limit }
+        ensures { result ≡ conflict_of None None value limit }
     {
-        Conflict::alone(NO_PART, value, limit)
+        Conflict {
+            first: None,
+            second: None,
+            value,
+            limit,
+        }
     }
 
     // A part that has to end by the limit, and where it ends.
     pub(crate) fn past(first: Part, second: Part, end: u128, limit: u128) -> Conflict
-        ensures { result ≡ conflict_of first second (min end (2 ^ 64 - 1)) (min limit (2 ^ 64 - 1)) }
+        ensures { result ≡ conflict_of (Some first) (Some second) (min end (2 ^ 64 - 1)) (min limit (2 ^ 64 - 1)) }
     {
         Conflict::of(first, second, clamped(end), clamped(limit))
     }

@@ -1,46 +1,47 @@
 //! The rules of elements: the parts of an image that its structures describe.
 
-ghost use Rattle.std.specs.Prelude.{◌≡◌, ◌<◌, IfSome};
+ghost use Rattle.std.specs.Prelude.{◌≡◌, ◌<◌, IfSome, Some};
 ghost use Rattle.macho_fields.specs.Bytes.{bytes_of};
 ghost use Rattle.macho_fields.specs.declared.rule.Rule.{Rule};
-ghost use Rattle.macho_explain.specs.Compared.{IsFound, IsSpot, Share, SharesOrPasses};
+ghost use Rattle.macho_explain.specs.Compared.{SharesOrPasses};
+ghost use Rattle.macho_explain.specs.Explained.{ExplainsIn, IsSpot};
+ghost use Rattle.macho_explain.specs.Parts.{Share, place_in_file};
 ghost use Rattle.macho_explain.specs.Explain.{IsWalked};
-ghost use Rattle.macho_explain.specs.Parts.{place_in_file};
 ghost use Rattle.macho_explain.specs.declared.walk.Sought.TheVariants as sought;
 
 use crate::conflict::{Conflict, shared};
+use crate::explanation::Explanation;
 use crate::gaps::Neighbors;
-use crate::part::{
-    BYTE, HEADERS, NO_INDEX, NO_PART, Part, RELOCATIONS, SECTION_BYTES, TABLE, index_of,
-};
+use crate::part::{Part, PartKind, index_of};
 use crate::section::{section_spot, section_with};
 use crate::segment::segment_at;
 use crate::sliced::Sliced;
-use crate::spot::{Spot, command_spot};
+use crate::spot::Spot;
 use crate::walk::{Sought, Walked, walk_to};
-use macho_fields::Rule;
 use macho_image::Image;
 use macho_strict::{Element, Elements};
 
-// Explains which element that the structure at the place describes shares bytes with an earlier one, or
-// ends past the image.
-pub(crate) fn explain_element(sliced: &Sliced, place: u64) -> Option<(Spot, Conflict)>
-    ensures { IfSome result (IsFound Rule.ElementOverlap (bytes_of sliced.now.held.bytes) place) }
+// Which element that the structure at the place describes shares bytes with an earlier one, or ends past the
+// image.
+pub(crate) fn element_overlap(sliced: &Sliced) -> Option<Explanation>
+    ensures { ExplainsIn Rule.ElementOverlap sliced.now result }
 {
     let image = sliced.held.open()?;
-    let walked = walk_to(sliced.held.bytes, Sought::At(place))?;
-    let conflict = first_conflict(sliced, &image, place)?;
-    Some((describing_spot(sliced, &walked, place), conflict))
+    let walked = walk_to(sliced.held.bytes, Sought::At(sliced.place))?;
+    let conflict = first_conflict(sliced, &image, sliced.place)?;
+    Some(describing_spot(sliced, &walked).shows(conflict))
 }
 
-// The section that has a place, or otherwise the command that has it.
-fn describing_spot(sliced: &Sliced, walked: &Walked, place: u64) -> Spot
-    requires { IsWalked (bytes_of sliced.now.held.bytes) (sought.At place) walked.now }
-    ensures { IsSpot (bytes_of sliced.now.held.bytes) place result }
+// The section that has the place, or otherwise the command that has it.
+fn describing_spot(sliced: &Sliced, walked: &Walked) -> Spot
+    requires { IsWalked (bytes_of sliced.now.held.bytes) (sought.At sliced.now.place) walked.now }
+    ensures { IsSpot sliced.now result }
 {
-    match section_with(sliced, walked, place) {
-        Some(section) => section_spot(sliced, walked, &section, place),
-        None => command_spot(sliced, walked, place),
+    match section_with(sliced, walked, sliced.place) {
+        Some(section) => section_spot(sliced, walked, &section),
+        None => sliced
+            .at(sliced.command(walked))
+            .in_command(Some(walked.index)),
     }
 }
 
@@ -72,7 +73,7 @@ fn conflict_of(sliced: &Sliced, image: &Image, element: Element, index: u64) -> 
         return None;
     }
     let part = element_part(sliced, image, element, index);
-    Some(Conflict::past(part, sliced.part, element.span.end(), len))
+    Some(Conflict::past(part, sliced.whole(), element.span.end(), len))
 }
 
 // The first element before the one with this index that shares a byte with it.
@@ -100,13 +101,13 @@ fn element_part(sliced: &Sliced, image: &Image, element: Element, index: u64) ->
     ensures size { result.size ≡ element.span.len }
 {
     let Some(walked) = walk_to(sliced.held.bytes, Sought::At(element.described)) else {
-        return sliced.described(HEADERS, element.span, element.described, NO_INDEX);
+        return sliced.described(PartKind::Headers, element.span, element.described, None);
     };
     let nth = described_before(image, element.described, index);
     let (kind, number) = match section_with(sliced, &walked, element.described) {
-        Some(section) if nth == 0 => (SECTION_BYTES, section.index),
-        Some(section) => (RELOCATIONS, section.index),
-        None => (TABLE, index_of(nth)),
+        Some(section) if nth == 0 => (PartKind::SectionBytes, section.index),
+        Some(section) => (PartKind::Relocations, section.index),
+        None => (PartKind::Table, index_of(nth)),
     };
     sliced.described(kind, element.span, element.described, number)
 }
@@ -127,47 +128,42 @@ fn described_before(image: &Image, place: u64, index: u64) -> u64 {
     count
 }
 
-// Explains a rule of the byte at the place: between which parts it is, or in which command.
-pub(crate) fn explain_byte(sliced: &Sliced, rule: Rule, place: u64) -> Option<(Spot, Conflict)>
-    ensures { IfSome result (IsFound rule (bytes_of sliced.now.held.bytes) place) }
+// The byte at the place, and the command that has it.
+pub(crate) fn command_slack(sliced: &Sliced) -> Option<Explanation>
+    ensures { ExplainsIn Rule.CommandSlack sliced.now result }
 {
+    let (at, byte) = sliced.byte()?;
+    let walked = walk_to(sliced.held.bytes, Sought::At(sliced.place))?;
+    let conflict = Conflict::alone(sliced.command(&walked), byte, 0);
+    Some(at.in_command(Some(walked.index)).shows(conflict))
+}
+
+// The byte at the place, and the segments before and after it.
+pub(crate) fn stray_byte(sliced: &Sliced) -> Option<Explanation>
+    ensures { ExplainsIn Rule.StrayByte sliced.now result }
+{
+    let (at, byte) = sliced.byte()?;
     let image = sliced.held.open()?;
-    let byte = u64::from(sliced.held.bytes.u8_at(place)?);
-    let walked = walk_to(sliced.held.bytes, Sought::At(place));
-    let at = sliced.structure(BYTE, place, 1, NO_INDEX);
-    match (rule, walked) {
-        (Rule::CommandSlack, Some(walked)) => {
-            let spot = Spot::in_command(at, walked.index);
-            Some((spot, Conflict::alone(sliced.command(&walked), byte, 0)))
-        }
-        (Rule::StrayByte, None) => {
-            let (before, after) = segments_around(sliced, &image, place);
-            Some((Spot::of(at), Conflict::of(before, after, byte, 0)))
-        }
-        (Rule::UnclaimedByte, None) => {
-            let (before, after) = elements_around(sliced, &image, place);
-            Some((Spot::of(at), Conflict::of(before, after, byte, 0)))
-        }
-        _ => None,
-    }
+    let found = segments_beside(&image, sliced.place);
+    Some(at.shows(Conflict {
+        first: segment_part(sliced, &image, found.before()),
+        second: segment_part(sliced, &image, found.after()),
+        ..Conflict::numbers(byte, 0)
+    }))
 }
 
-// The segments before and after a byte.
-fn segments_around(sliced: &Sliced, image: &Image, place: u64) -> (Part, Part) {
-    let found = segments_beside(image, place);
-    (
-        segment_part(sliced, image, found.before()),
-        segment_part(sliced, image, found.after()),
-    )
-}
-
-// The elements before and after a byte.
-fn elements_around(sliced: &Sliced, image: &Image, place: u64) -> (Part, Part) {
-    let found = elements_beside(image, place);
-    (
-        part_at(sliced, image, found.before()),
-        part_at(sliced, image, found.after()),
-    )
+// The byte at the place, and the elements before and after it.
+pub(crate) fn unclaimed_byte(sliced: &Sliced) -> Option<Explanation>
+    ensures { ExplainsIn Rule.UnclaimedByte sliced.now result }
+{
+    let (at, byte) = sliced.byte()?;
+    let image = sliced.held.open()?;
+    let found = elements_beside(&image, sliced.place);
+    Some(at.shows(Conflict {
+        first: part_at(sliced, &image, found.before()),
+        second: part_at(sliced, &image, found.after()),
+        ..Conflict::numbers(byte, 0)
+    }))
 }
 
 // The segments beside a place.
@@ -193,23 +189,14 @@ fn elements_beside(image: &Image, place: u64) -> Neighbors {
 }
 
 // The segment with this index, as a part.
-fn segment_part(sliced: &Sliced, image: &Image, index: Option<u64>) -> Part {
-    let Some(index) = index else {
-        return NO_PART;
-    };
-    match image.segments().nth(index as usize) {
-        Some(segment) => segment_at(sliced, segment.place()),
-        None => NO_PART,
-    }
+fn segment_part(sliced: &Sliced, image: &Image, index: Option<u64>) -> Option<Part> {
+    let segment = image.segments().nth(index? as usize)?;
+    segment_at(sliced, segment.place())
 }
 
 // The element with this index, as a part.
-fn part_at(sliced: &Sliced, image: &Image, index: Option<u64>) -> Part {
-    let Some(index) = index else {
-        return NO_PART;
-    };
-    match Elements::of(image).nth(index as usize) {
-        Some(element) => element_part(sliced, image, element, index),
-        None => NO_PART,
-    }
+fn part_at(sliced: &Sliced, image: &Image, index: Option<u64>) -> Option<Part> {
+    let index = index?;
+    let element = Elements::of(image).nth(index as usize)?;
+    Some(element_part(sliced, image, element, index))
 }

@@ -5,22 +5,19 @@ ghost use Rattle.macho_fields.specs.Bytes.{bytes_of};
 ghost use Rattle.macho_fields.specs.Universal.{slices_of};
 ghost use Rattle.macho_fields.specs.declared.rule.Rule.{Rule};
 ghost use Rattle.macho_fat.specs.Slices.{slice_of};
-ghost use Rattle.macho_explain.specs.Compared.{ShowsFile};
-ghost use Rattle.macho_explain.specs.Explained.{IsOfFile};
+ghost use Rattle.macho_explain.specs.Explained.{ExplainsFile};
 
 use crate::conflict::{Conflict, shared};
-use crate::explanation::{Explanation, explained};
+use crate::explanation::Explanation;
 use crate::gaps::Neighbors;
-use crate::part::{
-    BYTE, FAT_ARCH, FAT_HEADER, FAT_TABLE, FILE, MAGIC, NO_INDEX, NO_PART, Part, SLICE, structure,
-};
+use crate::part::{Part, PartKind, structure};
 use crate::spot::Spot;
 use macho_fat::{Slice, is_unread_image, slice_at};
 use macho_fields::header::fat::{
     FAT_ARCH_64_SIZE, FAT_ARCH_SIZE, FAT_HEADER_SIZE, FAT_MAGIC, FAT_MAGIC_64,
 };
 use macho_fields::header::loader::MH_MAGIC_64;
-use macho_fields::{Bytes, Order, Rule};
+use macho_fields::{Bytes, Order};
 
 // The size of a magic number.
 const MAGIC_SIZE: u64 = 4;
@@ -33,151 +30,141 @@ const ALIGN: u64 = 16;
 
 const ALIGN_64: u64 = 24;
 
-// Explains a rule that is judged over the file.
-pub(crate) fn explain_file(file: &[u8], rule: Rule, place: u64) -> Option<Explanation>
-    ensures { IfSome result (IsOfFile rule file.now place) }
-{
-    let file = Bytes::new(file);
-    match rule {
-        Rule::Magic | Rule::FatTruncated | Rule::FatEmpty => explain_start(file, rule, place),
-        Rule::FatSliceMagic => explain_slice_magic(file, place),
-        Rule::FatStrayByte => explain_stray_byte(file, place),
-        _ => explain_entry(file, rule, place),
-    }
-}
-
-// Explains a rule of the first bytes of the file.
-fn explain_start(file: Bytes, rule: Rule, place: u64) -> Option<Explanation>
-    ensures { IfSome result (IsOfFile rule (bytes_of file.entry) place) }
-{
-    match rule {
-        Rule::Magic if place == 0 => {
-            let at = magic_part(0, file.len(), NO_INDEX);
-            Some(explained(NO_INDEX, Spot::of(at), magic(file)))
-        }
-        Rule::FatTruncated if place == NFAT_ARCH && is_universal(file) => {
-            let at = fat_header(file);
-            Some(explained(NO_INDEX, Spot::of(at), fat_truncated(file)))
-        }
-        Rule::FatEmpty if place == NFAT_ARCH && is_universal(file) => {
-            let none = Conflict::alone(fat_table(file), 0, 1);
-            Some(explained(NO_INDEX, Spot::of(fat_header(file)), none))
-        }
-        _ => None,
-    }
-}
-
 // What the file begins with, and with what it would begin as an image.
-fn magic(file: Bytes) -> Conflict
-    ensures { result.limit ≡ MH_MAGIC_64 }
+pub(crate) fn magic(file: Bytes, place: u64) -> Option<Explanation>
+    ensures { ExplainsFile Rule.Magic (bytes_of file.entry) place result }
 {
-    Conflict::numbers(
-        u64::from(first_word(file, 0, file.len())),
-        u64::from(MH_MAGIC_64),
-    )
+    if place != 0 {
+        return None;
+    }
+    let at = Spot::of(None, magic_part(0, file.len(), None));
+    let word = u64::from(first_word(file, 0, file.len()));
+    Some(at.shows(Conflict::numbers(word, u64::from(MH_MAGIC_64))))
 }
 
 // The table, or in a file of fewer bytes its header, ends past the file.
-fn fat_truncated(file: Bytes) -> Conflict
-    ensures { result.limit ≡ length (bytes_of file.entry) }
+pub(crate) fn fat_truncated(file: Bytes, place: u64) -> Option<Explanation>
+    ensures { ExplainsFile Rule.FatTruncated (bytes_of file.entry) place result }
 {
+    let at = header_here(file, place)?;
     let first = if file.len() < FAT_HEADER_SIZE {
-        structure(FAT_HEADER, 0, FAT_HEADER_SIZE, NO_INDEX)
+        structure(PartKind::FatHeader, 0, FAT_HEADER_SIZE, None)
     } else {
         fat_table(file)
     };
-    Conflict::of(first, whole(file), first.size, file.len())
+    let size = first.size;
+    Some(at.shows(Conflict::of(first, whole(file), size, file.len())))
 }
 
-// Explains a rule of the entry of the table that is at the place.
-fn explain_entry(file: Bytes, rule: Rule, place: u64) -> Option<Explanation>
-    ensures { IfSome result (IsOfFile rule (bytes_of file.entry) place) }
+// No entry of the table is of a 64-bit image.
+pub(crate) fn fat_empty(file: Bytes, place: u64) -> Option<Explanation>
+    ensures { ExplainsFile Rule.FatEmpty (bytes_of file.entry) place result }
 {
-    let index = entry_index(file, place)?;
-    let slice = slice_with_index(file, index)?;
-    let conflict = entry_conflict(file, rule, index, &slice, place)?;
-    let at = structure(FAT_ARCH, place, entry_size(file), index);
-    Some(explained(index, Spot::of(at), conflict))
+    let at = header_here(file, place)?;
+    Some(at.shows(Conflict::alone(fat_table(file), 0, 1)))
 }
 
-// What conflicts with the slice of an entry.
-fn entry_conflict(
-    file: Bytes,
-    rule: Rule,
-    index: u32,
-    slice: &Slice,
-    place: u64,
-) -> Option<Conflict>
-    requires { slice_get (slices_of (bytes_of file)) index ≡ Some (slice_of slice.now) }
-    ensures { IfSome result (ShowsFile rule (bytes_of file.entry) place index) }
+// What there is of the header of a universal file, by the place of its second field.
+fn header_here(file: Bytes, place: u64) -> Option<Spot>
+    ensures { IfSome result (λ at. place ≡ 4) }
 {
-    let first = slice_part(file, index, slice);
-    let start = slice.span.start;
-    match rule {
-        Rule::FatSliceOutside => Some(Conflict::past(
-            first,
-            whole(file),
-            slice.span.end(),
-            u128::from(file.len()),
-        )),
-        Rule::FatSliceInTable => {
-            let table = fat_table(file);
-            Some(Conflict::of(first, table, start, table.size))
-        }
-        Rule::FatAlign => Some(Conflict::alone(first, start, alignment(file, index))),
-        Rule::FatOverlap => fat_overlap(file, index, slice),
-        Rule::FatDuplicate => fat_duplicate(file, index, slice),
-        _ => None,
+    if place != NFAT_ARCH || !is_universal(file) {
+        return None;
     }
+    let size = file.len().min(FAT_HEADER_SIZE);
+    Some(Spot::of(None, structure(PartKind::FatHeader, 0, size, None)))
 }
 
-// The first earlier slice that shares a byte with the slice of an entry.
-fn fat_overlap(file: Bytes, index: u32, slice: &Slice) -> Option<Conflict>
-    ensures { (place : ℕ) → IfSome result (ShowsFile Rule.FatOverlap (bytes_of file.entry) place index) }
+// The entry at the place, its index, and its slice.
+fn entry_here(file: Bytes, place: u64) -> Option<(Spot, u32, Slice)>
+    ensures slice { IfSome result (λ found. found.0.slice ≡ Some found.1) }
+    ensures listed { IfSome result (λ found.
+        slice_get (slices_of (bytes_of file.entry)) found.1 ≡ Some (slice_of found.2)) }
 {
+    let offset = place.checked_sub(FAT_HEADER_SIZE)?;
+    let size = entry_size(file);
+    if offset % size != 0 {
+        return None;
+    }
+    let index = u32::try_from(offset / size).ok()?;
+    let slice = slice_with_index(file, index)?;
+    let part = structure(PartKind::FatArch, place, size, Some(index));
+    Some((Spot::of(Some(index), part), index, slice))
+}
+
+// Where the slice of an entry ends, and the file.
+pub(crate) fn fat_slice_outside(file: Bytes, place: u64) -> Option<Explanation>
+    ensures { ExplainsFile Rule.FatSliceOutside (bytes_of file.entry) place result }
+{
+    let (at, index, slice) = entry_here(file, place)?;
+    let (part, end) = (slice_part(file, index, &slice), slice.span.end());
+    Some(at.shows(Conflict::past(part, whole(file), end, u128::from(file.len()))))
+}
+
+// Where the slice begins, and where the table ends.
+pub(crate) fn fat_slice_in_table(file: Bytes, place: u64) -> Option<Explanation>
+    ensures { ExplainsFile Rule.FatSliceInTable (bytes_of file.entry) place result }
+{
+    let (at, index, slice) = entry_here(file, place)?;
+    let (part, table) = (slice_part(file, index, &slice), fat_table(file));
+    let end = table.size;
+    Some(at.shows(Conflict::of(part, table, slice.span.start, end)))
+}
+
+// Where the slice begins, and its alignment.
+pub(crate) fn fat_align(file: Bytes, place: u64) -> Option<Explanation>
+    ensures { ExplainsFile Rule.FatAlign (bytes_of file.entry) place result }
+{
+    let (at, index, slice) = entry_here(file, place)?;
+    let part = slice_part(file, index, &slice);
+    let alignment = alignment(file, index);
+    Some(at.shows(Conflict::alone(part, slice.span.start, alignment)))
+}
+
+// The first earlier slice that shares a byte with the slice of the entry.
+pub(crate) fn fat_overlap(file: Bytes, place: u64) -> Option<Explanation>
+    ensures { ExplainsFile Rule.FatOverlap (bytes_of file.entry) place result }
+{
+    let (at, index, slice) = entry_here(file, place)?;
     for earlier in 0..index {
         let other = slice_with_index(file, earlier)?;
         if let Some((first, last)) = shared(slice.span, other.span) {
-            let (one, other) = (
-                slice_part(file, index, slice),
-                slice_part(file, earlier, &other),
-            );
-            return Some(Conflict::of(one, other, first, last));
+            let one = slice_part(file, index, &slice);
+            let other = slice_part(file, earlier, &other);
+            return Some(at.shows(Conflict::of(one, other, first, last)));
         }
     }
     None
 }
 
-// The first earlier slice that has the architecture of the slice of an entry.
-fn fat_duplicate(file: Bytes, index: u32, slice: &Slice) -> Option<Conflict>
-    ensures { (place : ℕ) → IfSome result (ShowsFile Rule.FatDuplicate (bytes_of file.entry) place index) }
+// The first earlier slice that has the architecture of the slice of the entry.
+pub(crate) fn fat_duplicate(file: Bytes, place: u64) -> Option<Explanation>
+    ensures { ExplainsFile Rule.FatDuplicate (bytes_of file.entry) place result }
 {
+    let (at, index, slice) = entry_here(file, place)?;
     let arch = arch_number(slice.arch?);
     for earlier in 0..index {
         let other = slice_with_index(file, earlier)?;
         if arch_number(other.arch?) == arch {
-            let (one, other) = (
-                slice_part(file, index, slice),
-                slice_part(file, earlier, &other),
-            );
-            return Some(Conflict::of(one, other, arch, arch));
+            let one = slice_part(file, index, &slice);
+            let other = slice_part(file, earlier, &other);
+            return Some(at.shows(Conflict::of(one, other, arch, arch)));
         }
     }
     None
 }
 
-// Explains which slice at a place begins with the magic number of no image.
-fn explain_slice_magic(file: Bytes, place: u64) -> Option<Explanation>
-    ensures { IfSome result (IsOfFile Rule.FatSliceMagic (bytes_of file.entry) place) }
+// The slice at the place, which begins with the magic number of no image.
+pub(crate) fn fat_slice_magic(file: Bytes, place: u64) -> Option<Explanation>
+    ensures { ExplainsFile Rule.FatSliceMagic (bytes_of file.entry) place result }
 {
     for index in 0..entry_count(file) {
         let slice = slice_with_index(file, index)?;
         if slice.span.start == place && is_foreign(file, &slice) {
             let word = u64::from(first_word(file, place, slice.span.len));
             let part = slice_part(file, index, &slice);
-            let at = magic_part(place, slice.span.len, part.index);
-            let conflict = Conflict::alone(part, word, u64::from(MH_MAGIC_64));
-            return Some(explained(part.index, Spot::of(at), conflict));
+            let at = Spot::of(Some(index), magic_part(place, slice.span.len, Some(index)));
+            return Some(at.shows(Conflict::alone(part, word, u64::from(MH_MAGIC_64))));
         }
     }
     None
@@ -191,9 +178,9 @@ fn is_foreign(file: Bytes, slice: &Slice) -> bool {
     }
 }
 
-// Explains between which slices a byte is.
-fn explain_stray_byte(file: Bytes, place: u64) -> Option<Explanation>
-    ensures { IfSome result (IsOfFile Rule.FatStrayByte (bytes_of file.entry) place) }
+// The byte at the place, and between which slices it is.
+pub(crate) fn fat_stray_byte(file: Bytes, place: u64) -> Option<Explanation>
+    ensures { ExplainsFile Rule.FatStrayByte (bytes_of file.entry) place result }
 {
     let byte = file.u8_at(place)?;
     let mut neighbors = Neighbors::of(place);
@@ -201,25 +188,20 @@ fn explain_stray_byte(file: Bytes, place: u64) -> Option<Explanation>
         let slice = slice_with_index(file, index)?;
         neighbors.note(slice.span, u64::from(index));
     }
-    let before = part_or(file, neighbors.before(), fat_table(file));
-    let after = part_or(file, neighbors.after(), NO_PART);
-    let at = structure(BYTE, place, 1, NO_INDEX);
-    let conflict = Conflict::of(before, after, u64::from(byte), 0);
-    Some(explained(NO_INDEX, Spot::of(at), conflict))
+    let before = part_with(file, neighbors.before());
+    let at = Spot::of(None, structure(PartKind::Byte, place, 1, None));
+    Some(at.shows(Conflict {
+        first: before.or(Some(fat_table(file))),
+        second: part_with(file, neighbors.after()),
+        ..Conflict::numbers(u64::from(byte), 0)
+    }))
 }
 
-// The slice with an index, as a part; if there is none, the other part.
-fn part_or(file: Bytes, index: Option<u64>, other: Part) -> Part {
-    let Some(index) = index else {
-        return other;
-    };
-    match u32::try_from(index) {
-        Ok(index) => match slice_with_index(file, index) {
-            Some(slice) => slice_part(file, index, &slice),
-            None => other,
-        },
-        Err(_) => other,
-    }
+// The slice with an index, as a part.
+fn part_with(file: Bytes, index: Option<u64>) -> Option<Part> {
+    let index = u32::try_from(index?).ok()?;
+    let slice = slice_with_index(file, index)?;
+    Some(slice_part(file, index, &slice))
 }
 
 // The slice of the entry with an index, in a universal file.
@@ -240,7 +222,7 @@ fn slice_with_index(file: Bytes, index: u32) -> Option<Slice>
 pub(crate) fn slice_part(file: Bytes, index: u32, slice: &Slice) -> Part
     ensures start { result.start ≡ slice.now.span.start }
     ensures size { result.size ≡ slice.now.span.len }
-    ensures index { result.index ≡ index }
+    ensures index { result.index ≡ Some index }
 {
     let described = match slice.arch {
         Some(_) => entry_place(file, index),
@@ -250,14 +232,19 @@ pub(crate) fn slice_part(file: Bytes, index: u32, slice: &Slice) -> Part
         start: slice.span.start,
         size: slice.span.len,
         described,
-        kind: SLICE,
-        index: index,
+        kind: PartKind::Slice,
+        index: Some(index),
     }
 }
 
 // The entry of a slice, as a part.
 pub(crate) fn entry_part(file: Bytes, index: u32) -> Part {
-    structure(FAT_ARCH, entry_place(file, index), entry_size(file), index)
+    structure(
+        PartKind::FatArch,
+        entry_place(file, index),
+        entry_size(file),
+        Some(index),
+    )
 }
 
 // The number of an architecture: `cputype` and the masked `cpusubtype`.
@@ -273,16 +260,6 @@ fn entry_place(file: Bytes, index: u32) -> u64
     ensures { result < 2 ^ 40 }
 {
     FAT_HEADER_SIZE + u64::from(index) * entry_size(file)
-}
-
-// The index of the entry that begins at a place.
-fn entry_index(file: Bytes, place: u64) -> Option<u32> {
-    let offset = place.checked_sub(FAT_HEADER_SIZE)?;
-    let size = entry_size(file);
-    if offset % size != 0 {
-        return None;
-    }
-    u32::try_from(offset / size).ok()
 }
 
 // 2 to the power of the `align` of an entry, or 0 if that is 2^64 or more.
@@ -302,23 +279,18 @@ fn alignment(file: Bytes, index: u32) -> u64 {
 
 // All bytes of the file.
 fn whole(file: Bytes) -> Part {
-    structure(FILE, 0, file.len(), NO_INDEX)
-}
-
-// What there is of the `fat_header`.
-fn fat_header(file: Bytes) -> Part {
-    structure(FAT_HEADER, 0, file.len().min(FAT_HEADER_SIZE), NO_INDEX)
+    structure(PartKind::File, 0, file.len(), None)
 }
 
 // The `fat_header` and all entries.
 fn fat_table(file: Bytes) -> Part {
     let end = FAT_HEADER_SIZE + u64::from(entry_count(file)) * entry_size(file);
-    structure(FAT_TABLE, 0, end, NO_INDEX)
+    structure(PartKind::FatTable, 0, end, None)
 }
 
 // What there is of the magic number at the start of bytes of this length.
-fn magic_part(start: u64, len: u64, index: u32) -> Part {
-    structure(MAGIC, start, len.min(MAGIC_SIZE), index)
+fn magic_part(start: u64, len: u64, index: Option<u32>) -> Part {
+    structure(PartKind::Magic, start, len.min(MAGIC_SIZE), index)
 }
 
 // The first 4 bytes as a number of an image, or 0 if there are fewer.

@@ -1,109 +1,174 @@
 //! Why a file is refused: what is at the place of the verdict, and which parts and numbers conflict there.
 
-ghost use Rattle.std.specs.Prelude.{◌≡◌, IfSome, IsTrue};
-ghost use Rattle.macho_explain.specs.Explained.{is_of_file as is_of_file_of, HasPlace, IsExplained};
-ghost use Rattle.macho_explain.specs.Parts.{explanation_of};
+ghost use Rattle.std.specs.Prelude.{◌≡◌, ◌≤◌, length, MatchOption};
+ghost use Rattle.macho_fields.specs.Bytes.{bytes_of};
+ghost use Rattle.macho_explain.specs.Explained.{ExplainsBy, HasPlace, IsExplained, IsUnexplained};
 
+use crate::chains::{chain_header, chain_imports, chain_library, chain_starts, chain_total};
+use crate::command::{
+    command_content, command_repeated, command_short, command_walk, encrypted_range, entry,
+    function_variants, name, symbol_group, table_range, table_repeated, thread,
+};
 use crate::conflict::Conflict;
-use crate::entries::explain_file;
-use crate::part::{NO_INDEX, NO_PART, Part};
-use crate::sliced::explain_image;
+use crate::element::{command_slack, element_overlap, stray_byte, unclaimed_byte};
+use crate::entries::{
+    fat_align, fat_duplicate, fat_empty, fat_overlap, fat_slice_in_table, fat_slice_magic,
+    fat_slice_outside, fat_stray_byte, fat_truncated, magic,
+};
+use crate::exports::{export_address, export_library, export_node, export_terminal, export_total};
+use crate::functions::{data_in_code, function_number, function_start};
+use crate::header::{
+    arch_mismatch, commands_end, commands_outside, dylib_id, file_type, header_home,
+    header_segment, header_truncated,
+};
+use crate::home::table_home;
+use crate::part::Part;
+use crate::pointers::{chain_bind, chain_slot};
+use crate::relocation::relocation;
+use crate::seal::{directory_repeated, signature_hash, signature_missing, signature_slack};
+use crate::section::{section_address, section_file, section_relocs};
+use crate::segment::{
+    segment_address, segment_file, segment_file_overlap, segment_overlap, segment_size,
+};
+use crate::signature::{signature_blob, signature_directory, signature_whole};
+use crate::sliced::{Sliced, image_with};
 use crate::spot::Spot;
-use macho_fields::{Bytes, Rule, Span};
+use crate::stream::{
+    bind_library, bind_names, bind_opcode, bind_slot, bind_symbol, bind_total, rebase_opcode,
+    rebase_slot, rebase_total,
+};
+use crate::symbol::{
+    indirect_index, symbol_indirect, symbol_library, symbol_name, symbol_section, symbol_value,
+};
+use macho_fields::{Bytes, Rule};
 
-/// Why a file is refused. (`struct kesvuot_explanation`)
-#[repr(C)]
+/// Why a file is refused.
 #[derive(Clone, Copy)]
 pub struct Explanation {
     /// The structure that has the place, or the byte there.
-    pub at: Part,
-    /// What breaks the rule, and with what it conflicts.
-    pub first: Part,
-    pub second: Part,
-    /// The numbers that the rule compares.
-    pub value: u64,
-    pub limit: u64,
-    /// The index of the slice, and of the command, the section and the symbol whose structure has the
-    /// place, each or `NO_INDEX`.
-    pub slice: u32,
-    pub command: u32,
-    pub section: u32,
-    pub symbol: u32,
+    pub at: Spot,
+    pub conflict: Conflict,
 }
-
-/// Nothing is explained.
-pub const NOTHING: Explanation = Explanation {
-    at: NO_PART,
-    first: NO_PART,
-    second: NO_PART,
-    value: 0,
-    limit: 0,
-    slice: NO_INDEX,
-    command: NO_INDEX,
-    section: NO_INDEX,
-    symbol: NO_INDEX,
-};
 
 /// Explains that a rule is broken at a place of the file, as a verdict says. `None` if nothing is at the place that the
 /// rule is about.
 pub fn explain(file: &[u8], rule: Rule, place: u64) -> Option<Explanation>
-    ensures { IfSome result (IsExplained rule file.now place) }
+    ensures { MatchOption result (IsUnexplained rule file.now place) (IsExplained rule file.now place) }
 {
-    let found = if is_of_file(rule) {
-        explain_file(file, rule, place)?
-    } else {
-        explain_image(file, rule, place)?
-    };
-    if !has_place(file, &found, place) {
+    let len = file.len() as u64;
+    if place > len {
         return None;
     }
-    Some(found)
+    let image = image_with(file, rule, place);
+    let found = explain_in(Bytes::new(file), rule, place, image)?;
+    Some(placed(found, place, len))
 }
 
-// Whether the structure or byte lies in the file, and has the place.
-fn has_place(file: &[u8], found: &Explanation, place: u64) -> bool
-    ensures { IsTrue result → HasPlace file.now place found.now }
+// Explains a rule by the file, or by the image that has the place: each rule has its line.
+fn explain_in(bytes: Bytes, rule: Rule, place: u64, image: Option<Sliced>) -> Option<Explanation>
+    ensures { ExplainsBy rule (bytes_of bytes.entry) place image.entry result }
 {
-    let at = Span {
-        start: found.at.start,
-        len: found.at.size,
+    match rule {
+        Rule::Magic => magic(bytes, place),
+        Rule::FatTruncated => fat_truncated(bytes, place),
+        Rule::FatSliceOutside => fat_slice_outside(bytes, place),
+        Rule::FatSliceInTable => fat_slice_in_table(bytes, place),
+        Rule::FatAlign => fat_align(bytes, place),
+        Rule::FatOverlap => fat_overlap(bytes, place),
+        Rule::FatDuplicate => fat_duplicate(bytes, place),
+        Rule::FatSliceMagic => fat_slice_magic(bytes, place),
+        Rule::FatEmpty => fat_empty(bytes, place),
+        Rule::HeaderTruncated => header_truncated(&image?),
+        Rule::ArchMismatch => arch_mismatch(&image?),
+        Rule::FileType => file_type(&image?),
+        Rule::CommandsOutside => commands_outside(&image?),
+        Rule::CommandWalk => command_walk(&image?),
+        Rule::CommandShort => command_short(&image?),
+        Rule::CommandRepeated => command_repeated(&image?),
+        Rule::DylibId => dylib_id(&image?),
+        Rule::Name => name(&image?),
+        Rule::SegmentAddress => segment_address(&image?),
+        Rule::SegmentSize => segment_size(&image?),
+        Rule::SegmentFile => segment_file(&image?),
+        Rule::SegmentOverlap => segment_overlap(&image?),
+        Rule::SectionAddress => section_address(&image?),
+        Rule::SectionFile => section_file(&image?),
+        Rule::SectionRelocs => section_relocs(&image?),
+        Rule::TableRange => table_range(&image?),
+        Rule::SymbolGroup => symbol_group(&image?),
+        Rule::SymbolName => symbol_name(&image?),
+        Rule::SymbolSection => symbol_section(&image?),
+        Rule::IndirectIndex => indirect_index(&image?),
+        Rule::Entry => entry(&image?),
+        Rule::FatStrayByte => fat_stray_byte(bytes, place),
+        Rule::CommandsEnd => commands_end(&image?),
+        Rule::HeaderSegment => header_segment(&image?),
+        Rule::SegmentFileOverlap => segment_file_overlap(&image?),
+        Rule::ElementOverlap => element_overlap(&image?),
+        Rule::StrayByte => stray_byte(&image?),
+        Rule::EncryptedRange => encrypted_range(&image?),
+        Rule::CommandSlack => command_slack(&image?),
+        Rule::UnclaimedByte => unclaimed_byte(&image?),
+        Rule::TableRepeated => table_repeated(&image?),
+        Rule::FunctionVariants => function_variants(&image?),
+        Rule::TableHome => table_home(&image?),
+        Rule::HeaderHome => header_home(&image?),
+        Rule::RebaseOpcode => rebase_opcode(&image?),
+        Rule::RebaseSlot => rebase_slot(&image?),
+        Rule::RebaseTotal => rebase_total(&image?),
+        Rule::BindOpcode => bind_opcode(&image?),
+        Rule::BindLibrary => bind_library(&image?),
+        Rule::BindSymbol => bind_symbol(&image?),
+        Rule::BindSlot => bind_slot(&image?),
+        Rule::BindTotal => bind_total(&image?),
+        Rule::BindNames => bind_names(&image?),
+        Rule::ChainHeader => chain_header(&image?),
+        Rule::ChainStarts => chain_starts(&image?),
+        Rule::ChainImports => chain_imports(&image?),
+        Rule::ChainTotal => chain_total(&image?),
+        Rule::ChainLibrary => chain_library(&image?),
+        Rule::ChainSlot => chain_slot(&image?),
+        Rule::ChainBind => chain_bind(&image?),
+        Rule::ExportNode => export_node(&image?),
+        Rule::ExportTotal => export_total(&image?),
+        Rule::ExportTerminal => export_terminal(&image?),
+        Rule::ExportLibrary => export_library(&image?),
+        Rule::ExportAddress => export_address(&image?),
+        Rule::FunctionNumber => function_number(&image?),
+        Rule::FunctionStart => function_start(&image?),
+        Rule::DataInCode => data_in_code(&image?),
+        Rule::SignatureBlob => signature_blob(&image?),
+        Rule::SignatureDirectory => signature_directory(&image?),
+        Rule::SignatureWhole => signature_whole(&image?),
+        Rule::SymbolLibrary => symbol_library(&image?),
+        Rule::SymbolValue => symbol_value(&image?),
+        Rule::SymbolIndirect => symbol_indirect(&image?),
+        Rule::Relocation => relocation(&image?),
+        Rule::Thread => thread(&image?),
+        Rule::CommandContent => command_content(&image?),
+        Rule::SignatureMissing => signature_missing(&image?),
+        Rule::DirectoryRepeated => directory_repeated(&image?),
+        Rule::SignatureSlack => signature_slack(&image?),
+        Rule::SignatureHash => signature_hash(&image?),
+    }
+}
+
+// What is found, with no more of its structure than is in a file of this length, and with the place.
+fn placed(found: Explanation, place: u64, len: u64) -> Explanation
+    requires { place ≤ len }
+    ensures place { HasPlace len place result.at.part }
+    ensures same { result ≡ record found { at = record found.at { part = result.at.part } } }
+{
+    let part = found.at.part;
+    let end = part.start.saturating_add(part.size).min(len).max(place);
+    let start = part.start.min(place);
+    let part = Part {
+        start,
+        size: end - start,
+        ..part
     };
-    let is_inside = Bytes::new(file).contains(at);
-    is_inside && at.start <= place && u128::from(place) <= at.end()
-}
-
-// Whether a rule is judged over the file, and not over each image in it.
-fn is_of_file(rule: Rule) -> bool
-    ensures { result ≡ is_of_file_of rule }
-{
-    matches!(
-        rule,
-        Rule::Magic
-            | Rule::FatTruncated
-            | Rule::FatSliceOutside
-            | Rule::FatSliceInTable
-            | Rule::FatAlign
-            | Rule::FatOverlap
-            | Rule::FatDuplicate
-            | Rule::FatSliceMagic
-            | Rule::FatEmpty
-            | Rule::FatStrayByte
-    )
-}
-
-// The explanation by what is at the place, in a slice, and what conflicts there.
-pub(crate) fn explained(slice: u32, spot: Spot, conflict: Conflict) -> Explanation
-    ensures { result ≡ explanation_of slice spot conflict }
-{
     Explanation {
-        at: spot.at,
-        first: conflict.first,
-        second: conflict.second,
-        value: conflict.value,
-        limit: conflict.limit,
-        slice,
-        command: spot.command,
-        section: spot.section,
-        symbol: spot.symbol,
+        at: Spot { part, ..found.at },
+        ..found
     }
 }

@@ -3,41 +3,113 @@
 ghost use Rattle.std.specs.Prelude.{◌≡◌, ◌+◌, ◌≤◌, length, IfSome, IsTrue};
 ghost use Rattle.std.specs.Option.{option_map};
 ghost use Rattle.macho_fields.specs.Bytes.{bytes_of};
+ghost use Rattle.macho_fields.specs.Field.{part};
 ghost use Rattle.macho_fields.specs.declared.rule.Rule.{Rule};
 ghost use Rattle.macho_spans.specs.Span.{end_of};
 ghost use Rattle.macho_exports.specs.ExportTrie.{node_at as node_at_of};
-ghost use Rattle.macho_explain.specs.Compared.{HasAddress, HasOrdinal, HasExportTarget, IsAddressShown, IsFound, LeadsTo, ShowsNode, flags_shown, node_bounds};
+ghost use Rattle.macho_explain.specs.Compared.{HasAddress, HasOrdinal, HasExportTarget, IsAddressShown, LeadsTo, flags_shown, node_bounds};
+ghost use Rattle.macho_explain.specs.Explained.{ExplainsIn, IsNodeHere};
 
 use crate::conflict::Conflict;
-use crate::functions::data_table;
-use crate::part::{EXPORT_NODE, NO_INDEX};
+use crate::explanation::Explanation;
+use crate::part::PartKind;
 use crate::segment::{SegmentWith, find_segment};
 use crate::sliced::Sliced;
 use crate::spot::Spot;
 use crate::stream::dyld_info;
-use crate::table::{Bounded, table_with};
+use crate::table::{Bounded, data_table, table_with};
 use macho_exports::export_trie::{Export, ExportNode, Target};
 use macho_exports::exports::MOST_FLAGS;
 use macho_fields::header::loader::LC_DYLD_EXPORTS_TRIE;
-use macho_fields::{Bytes, Rule, Span};
-use macho_opcodes::stream::Limits;
+use macho_fields::{Bytes, Span};
+use macho_tables::limits::library_count;
 use macho_tables::numbers::read_uleb;
 
 // The index of the exports among the tables of `dyld_info_command`.
 const EXPORTS: u64 = 4;
 
-// Explains a rule of the export trie that is broken at the node at the place.
-pub(crate) fn explain_exports(sliced: &Sliced, rule: Rule, place: u64) -> Option<(Spot, Conflict)>
-    ensures { IfSome result (IsFound rule (bytes_of sliced.now.held.bytes) place) }
+// A node of the export trie: its offset there, its terminal part and the offset past its last edge. What does not end
+// in the trie is none.
+#[derive(Clone, Copy)]
+struct NodeHere<'a> {
+    at: Spot,
+    table: Bounded,
+    trie: Bytes<'a>,
+    offset: u64,
+    bounds: Option<(Span, u64)>,
+}
+
+// The node at the place. One that does not end in the trie has all bytes that follow.
+fn node_here<'a>(sliced: &Sliced<'a>) -> Option<NodeHere<'a>>
+    ensures { IfSome result (IsNodeHere sliced.now) }
 {
     let table = export_table(sliced)?;
     let trie = Bytes::new(sliced.held.bytes.part(table.span)?);
-    let offset = place.checked_sub(table.span.start)?;
-    let node = node_at(trie, offset);
-    let size = node_size(trie, offset, node)?;
-    let (value, limit) = compared(sliced, rule, trie, offset, node)?;
-    let at = sliced.structure(EXPORT_NODE, place, size, NO_INDEX);
-    Some((Spot::of(at), Conflict::alone(table.part, value, limit)))
+    let offset = sliced.place.checked_sub(table.span.start)?;
+    let bounds = node_at(trie, offset);
+    let end = bounds.map_or(trie.len(), |bounds| bounds.1);
+    let size = end.checked_sub(offset)?;
+    let part = sliced.structure(PartKind::ExportNode, sliced.place, size, None);
+    Some(NodeHere {
+        at: sliced.at(part),
+        table,
+        trie,
+        offset,
+        bounds,
+    })
+}
+
+// The node that does not end in the trie, or would begin past it.
+pub(crate) fn export_node(sliced: &Sliced) -> Option<Explanation>
+    ensures { ExplainsIn Rule.ExportNode sliced.now result }
+{
+    let node = node_here(sliced)?;
+    let conflict = Conflict::alone(node.table.part, node.offset, node.trie.len());
+    Some(node.at.shows(conflict))
+}
+
+// The node with which all have more bytes than the trie.
+pub(crate) fn export_total(sliced: &Sliced) -> Option<Explanation>
+    ensures { ExplainsIn Rule.ExportTotal sliced.now result }
+{
+    let node = node_here(sliced)?;
+    let size = node.bounds?.1.checked_sub(node.offset)?;
+    let conflict = Conflict::alone(node.table.part, size, node.trie.len());
+    Some(node.at.shows(conflict))
+}
+
+// The flags of an export, and all that are known.
+pub(crate) fn export_terminal(sliced: &Sliced) -> Option<Explanation>
+    ensures { ExplainsIn Rule.ExportTerminal sliced.now result }
+{
+    let node = node_here(sliced)?;
+    let flags = flags_in(node.trie, node.bounds?.0);
+    Some(
+        node.at
+            .shows(Conflict::alone(node.table.part, flags, MOST_FLAGS)),
+    )
+}
+
+// The ordinal of the library that has the symbol.
+pub(crate) fn export_library(sliced: &Sliced) -> Option<Explanation>
+    ensures { ExplainsIn Rule.ExportLibrary sliced.now result }
+{
+    let node = node_here(sliced)?;
+    let ordinal = ordinal_in(node.trie, node.bounds?.0)?;
+    let libraries = library_count(&sliced.held.open()?);
+    Some(
+        node.at
+            .shows(Conflict::alone(node.table.part, ordinal, libraries)),
+    )
+}
+
+// The address of an export that no segment has.
+pub(crate) fn export_address(sliced: &Sliced) -> Option<Explanation>
+    ensures { ExplainsIn Rule.ExportAddress sliced.now result }
+{
+    let node = node_here(sliced)?;
+    let address = address_in(sliced, node.trie, node.bounds?.0)?;
+    Some(node.at.shows(Conflict::alone(node.table.part, address, 0)))
 }
 
 // The table of the trie: the data of `LC_DYLD_EXPORTS_TRIE`, and if that has no bytes, the exports of
@@ -58,43 +130,6 @@ fn node_at(trie: Bytes, offset: u64) -> Option<(Span, u64)>
     let node = ExportNode::read(trie, offset)?;
     let (_, end) = node.follow(trie, &[])?;
     Some((node.terminal, end))
-}
-
-// How many bytes the node at an offset of the trie has. One that does not end there has all that follow.
-fn node_size(trie: Bytes, offset: u64, node: Option<(Span, u64)>) -> Option<u64> {
-    let end = match node {
-        Some((_, end)) => end,
-        None => trie.len(),
-    };
-    end.checked_sub(offset)
-}
-
-// The numbers that a rule compares of the node at an offset of the trie.
-fn compared(
-    sliced: &Sliced,
-    rule: Rule,
-    trie: Bytes,
-    offset: u64,
-    node: Option<(Span, u64)>,
-) -> Option<(u64, u64)>
-    requires node { node ≡ option_map node_bounds (node_at_of (bytes_of trie) offset) }
-    requires inside { IfSome node (λ node. end_of node.0 ≤ length (bytes_of trie)) }
-    ensures { IfSome result (λ c. ShowsNode rule (bytes_of sliced.now.held.bytes) (bytes_of trie.entry) offset c.0 c.1) }
-{
-    if rule == Rule::ExportNode {
-        return Some((offset, trie.len()));
-    }
-    let (terminal, end) = node?;
-    match rule {
-        Rule::ExportTotal => Some((end.checked_sub(offset)?, trie.len())),
-        Rule::ExportTerminal => Some((flags_in(trie, terminal), MOST_FLAGS)),
-        Rule::ExportLibrary => {
-            let libraries = Limits::of(&sliced.held.open()?).libraries;
-            Some((ordinal_in(trie, terminal)?, libraries))
-        }
-        Rule::ExportAddress => Some((address_in(sliced, trie, terminal)?, 0)),
-        _ => None,
-    }
 }
 
 // The flags of an export, or 0 if they do not end in the terminal part.

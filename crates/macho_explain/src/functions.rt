@@ -1,71 +1,49 @@
 //! The rules of function starts and of data in code. (`mach-o/loader.h`: `LC_FUNCTION_STARTS`,
 //! `LC_DATA_IN_CODE`)
 
-ghost use Rattle.std.specs.Prelude.{◌≡◌, IfSome, Some};
+ghost use Rattle.std.specs.Prelude.{◌≡◌, IfSome};
 ghost use Rattle.macho_fields.specs.Bytes.{bytes_of};
 ghost use Rattle.macho_fields.specs.declared.rule.Rule.{Rule};
-ghost use Rattle.macho_fields.specs.LoadCommands.{structure_of};
-ghost use Rattle.macho_fields.specs.declared.load_command.Structure.TheVariants.{LinkeditDataCommand};
-ghost use Rattle.macho_explain.specs.Compared.{IsEntryShown, IsFound, IsStartShown};
-ghost use Rattle.macho_explain.specs.Signatures.{IsTableOfCommand};
+ghost use Rattle.macho_explain.specs.Compared.{IsEntryShown, IsStartShown};
+ghost use Rattle.macho_explain.specs.Explained.{ExplainsIn};
 
 use crate::conflict::Conflict;
-use crate::part::{BYTE, DATA_IN_CODE, DATA_IN_CODE_ENTRY, FUNCTION_START, NO_INDEX, index_of};
+use crate::explanation::Explanation;
+use crate::part::{PartKind, index_of};
 use crate::segment::{SegmentWith, find_segment};
 use crate::sliced::Sliced;
-use crate::spot::Spot;
-use crate::table::{Bounded, table_by, tables_of};
-use crate::walk::{Sought, walk_to};
+use crate::table::{Bounded, data_table};
 use macho_fields::header::loader::{
     DATA_IN_CODE_ENTRY_SIZE, DICE_KIND_ABS_JUMP_TABLE32, LC_DATA_IN_CODE, LC_FUNCTION_STARTS,
 };
-use macho_fields::{Bytes, Rule, Span};
+use macho_fields::{Bytes, Span};
 use macho_tables::data_in_code::{DataInCodeEntry, is_known_kind};
 use macho_tables::numbers::read_uleb;
 
-// Explains a rule of functions or of data in code that is broken at the place.
-pub(crate) fn explain_functions(sliced: &Sliced, rule: Rule, place: u64) -> Option<(Spot, Conflict)>
-    ensures { IfSome result (IsFound rule (bytes_of sliced.now.held.bytes) place) }
+// The byte at the place: no number begins there, or it is past the last one and not 0.
+pub(crate) fn function_number(sliced: &Sliced) -> Option<Explanation>
+    ensures { ExplainsIn Rule.FunctionNumber sliced.now result }
 {
-    match rule {
-        Rule::FunctionNumber => function_number(sliced, place),
-        Rule::FunctionStart => function_start(sliced, place),
-        Rule::DataInCode => data_in_code(sliced, place),
-        _ => None,
-    }
-}
-
-// The table of the first command with this `cmd`.
-pub(crate) fn data_table(sliced: &Sliced, cmd: u32) -> Option<Bounded>
-    ensures { structure_of cmd ≡ Some LinkeditDataCommand
-        → IfSome result (λ table. IsTableOfCommand (bytes_of sliced.now.held.bytes) cmd table.span) }
-{
-    let walked = walk_to(sliced.held.bytes, Sought::First(cmd))?;
-    let fields = tables_of(cmd).first()?;
-    Some(table_by(sliced, walked.load.place, *fields, 0))
-}
-
-// Explains the byte at the place: no number begins there, or it is past the last one and not 0.
-fn function_number(sliced: &Sliced, place: u64) -> Option<(Spot, Conflict)>
-    ensures { IfSome result (IsFound Rule.FunctionNumber (bytes_of sliced.now.held.bytes) place) }
-{
+    let (at, byte) = sliced.byte()?;
     let table = data_table(sliced, LC_FUNCTION_STARTS)?;
-    let byte = u64::from(sliced.held.bytes.u8_at(place)?);
-    let at = sliced.structure(BYTE, place, 1, NO_INDEX);
-    Some((Spot::of(at), Conflict::alone(table.part, byte, 0)))
+    Some(at.shows(Conflict::alone(table.part, byte, 0)))
 }
 
-// Explains the number at the place: at the address of its function, no segment has a byte of the file.
-fn function_start(sliced: &Sliced, place: u64) -> Option<(Spot, Conflict)>
-    ensures { IfSome result (IsFound Rule.FunctionStart (bytes_of sliced.now.held.bytes) place) }
+// The number at the place: at the address of its function, no segment has a byte of the file.
+pub(crate) fn function_start(sliced: &Sliced) -> Option<Explanation>
+    ensures { ExplainsIn Rule.FunctionStart sliced.now result }
 {
     let table = data_table(sliced, LC_FUNCTION_STARTS)?;
     let numbers = Bytes::new(sliced.held.bytes.part(table.span)?);
     let base = sliced.held.open()?.base()?;
-    let offset = place.checked_sub(table.span.start)?;
+    let offset = sliced.place.checked_sub(table.span.start)?;
     let (address, size) = start_at(numbers, base, offset)?;
-    let at = sliced.structure(FUNCTION_START, place, size, NO_INDEX);
-    Some((Spot::of(at), start_conflict(sliced, &table, address)))
+    let part = sliced.structure(PartKind::FunctionStart, sliced.place, size, None);
+    Some(
+        sliced
+            .at(part)
+            .shows(start_conflict(sliced, &table, address)),
+    )
 }
 
 // The address of a function, and where the file bytes end of the segment that has it, if one has.
@@ -102,32 +80,30 @@ fn start_at(table: Bytes, base: u64, offset: u64) -> Option<(u64, u64)>
     Some((address.saturating_add(distance), next - offset))
 }
 
-// Explains the table that is no whole entries, or the entry at the place.
-fn data_in_code(sliced: &Sliced, place: u64) -> Option<(Spot, Conflict)>
-    ensures { IfSome result (IsFound Rule.DataInCode (bytes_of sliced.now.held.bytes) place) }
+// The table that is no whole entries, or the entry at the place.
+pub(crate) fn data_in_code(sliced: &Sliced) -> Option<Explanation>
+    ensures { ExplainsIn Rule.DataInCode sliced.now result }
 {
     let table = data_table(sliced, LC_DATA_IN_CODE)?;
     let size = table.span.len;
     if size % DATA_IN_CODE_ENTRY_SIZE != 0 {
-        let at = sliced.structure(BYTE, place, 1, NO_INDEX);
+        let (at, _) = sliced.byte()?;
         let conflict = Conflict::alone(table.part, size, DATA_IN_CODE_ENTRY_SIZE);
-        return Some((Spot::of(at), conflict));
+        return Some(at.shows(conflict));
     }
-    let past = place.checked_sub(table.span.start)?;
+    let past = sliced.place.checked_sub(table.span.start)?;
     let whole = Span {
-        start: place,
+        start: sliced.place,
         len: DATA_IN_CODE_ENTRY_SIZE,
     };
     if past % DATA_IN_CODE_ENTRY_SIZE != 0 || past >= size || !sliced.held.bytes.contains(whole) {
         return None;
     }
     let index = index_of(past / DATA_IN_CODE_ENTRY_SIZE);
-    let at = sliced.structure(DATA_IN_CODE_ENTRY, place, DATA_IN_CODE_ENTRY_SIZE, index);
-    let entry = DataInCodeEntry::read(sliced.held.bytes, place);
-    Some((
-        Spot::of(at),
-        entry_conflict(sliced, &table, entry, place, index),
-    ))
+    let part = sliced.structure(PartKind::DataInCodeEntry, sliced.place, whole.len, index);
+    let entry = DataInCodeEntry::read(sliced.held.bytes, sliced.place);
+    let conflict = entry_conflict(sliced, &table, entry, index);
+    Some(sliced.at(part).shows(conflict))
 }
 
 // Why the entry at the place, which has this index, is bad: its kind, or where its bytes end.
@@ -135,8 +111,7 @@ fn entry_conflict(
     sliced: &Sliced,
     table: &Bounded,
     entry: DataInCodeEntry,
-    place: u64,
-    index: u32,
+    index: Option<u32>,
 ) -> Conflict
     ensures { IsEntryShown entry result }
 {
@@ -146,7 +121,7 @@ fn entry_conflict(
     }
     let bytes = entry.bytes();
     let end = bytes.start + bytes.len;
-    let part = sliced.described(DATA_IN_CODE, bytes, place, index);
+    let part = sliced.described(PartKind::DataInCode, bytes, sliced.place, index);
     match find_segment(sliced, SegmentWith::FileByte(bytes.start)) {
         Some(found) => {
             let limit = found.row.fileoff.saturating_add(found.row.filesize);

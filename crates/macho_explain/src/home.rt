@@ -1,25 +1,42 @@
 //! The rule of the home of a table of linked data. (docs/rules/linked.md)
 
+ghost use Rattle.std.specs.Prelude.{IfSome};
+ghost use Rattle.macho_fields.specs.Bytes.{bytes_of};
+ghost use Rattle.macho_fields.specs.declared.rule.Rule.{Rule};
+ghost use Rattle.macho_explain.specs.Compared.{IsFileEnd, IsHomelessShown};
+ghost use Rattle.macho_explain.specs.Explained.{ExplainsIn};
+ghost use Rattle.macho_explain.specs.Parts.{IsPartOf, Share};
+
+use crate::command::command_here;
 use crate::conflict::{Conflict, shared};
-use crate::part::NO_PART;
-use crate::segment::segment_at;
+use crate::explanation::Explanation;
+use crate::part::clamped;
+use crate::segment::{SegmentWith, find_segment};
 use crate::sliced::Sliced;
 use crate::table::{Bounded, table_by, tables_of};
-use crate::walk::{Sought, walk_to};
 use macho_fields::header::loader::LC_ENCRYPTION_INFO_64;
 use macho_image::Image;
-use macho_rows::load::Load;
 use macho_tables::homes::{has_linkedit, is_home};
 use macho_tables::segment::is_linkedit;
 
 // The first table of a command that has no home, and why.
-pub(crate) fn table_home(sliced: &Sliced, load: Load) -> Option<Conflict> {
-    let image = sliced.held.open()?;
+pub(crate) fn table_home(sliced: &Sliced) -> Option<Explanation>
+    ensures { ExplainsIn Rule.TableHome sliced.now result }
+{
+    let (at, walked) = command_here(sliced)?;
+    let conflict = first_homeless(sliced, &sliced.held.open()?, walked.load.cmd)?;
+    Some(at.shows(conflict))
+}
+
+// Why the first table that has no home has none, of those that the command at the place bounds.
+fn first_homeless(sliced: &Sliced, image: &Image, cmd: u32) -> Option<Conflict>
+    ensures { IfSome result (IsHomelessShown (bytes_of sliced.now.held.bytes)) }
+{
     let mut index: u64 = 0;
-    for fields in tables_of(load.cmd) {
-        let table = table_by(sliced, load.place, *fields, index);
+    for fields in tables_of(cmd) {
+        let table = table_by(sliced, sliced.place, *fields, index);
         if table.span.len > 0
-            && let Some(conflict) = homeless(sliced, &image, &table)
+            && let Some(conflict) = homeless(sliced, image, &table)
         {
             return Some(conflict);
         }
@@ -30,9 +47,12 @@ pub(crate) fn table_home(sliced: &Sliced, load: Load) -> Option<Conflict> {
 
 // Why a table has no home: no segment is one in which loaders look for it, one of these is no home, or a
 // kernel decrypts a byte of it.
-fn homeless(sliced: &Sliced, image: &Image, table: &Bounded) -> Option<Conflict> {
+fn homeless(sliced: &Sliced, image: &Image, table: &Bounded) -> Option<Conflict>
+    requires { IsPartOf sliced.now.held.place table.now.span table.now.part }
+    ensures { IfSome result (IsHomelessShown (bytes_of sliced.now.held.bytes)) }
+{
     if !has_linkedit(image) {
-        return Some(Conflict::past(table.part, NO_PART, table.end, 0));
+        return Some(Conflict::alone(table.part, clamped(table.end), 0));
     }
     match astray(sliced, image, table) {
         Some(conflict) => Some(conflict),
@@ -41,19 +61,24 @@ fn homeless(sliced: &Sliced, image: &Image, table: &Bounded) -> Option<Conflict>
 }
 
 // The first segment in which loaders look for the table, and which is no home of it.
-fn astray(sliced: &Sliced, image: &Image, table: &Bounded) -> Option<Conflict> {
+fn astray(sliced: &Sliced, image: &Image, table: &Bounded) -> Option<Conflict>
+    ensures { IfSome result (λ c. IsFileEnd (bytes_of sliced.now.held.bytes) c.limit) }
+{
     for segment in image.segments() {
         if is_linkedit(&segment) && !is_home(&segment, table.span) {
-            let part = segment_at(sliced, segment.place());
-            let limit = segment.file_part().end();
-            return Some(Conflict::past(table.part, part, table.end, limit));
+            let found = find_segment(sliced, SegmentWith::Command(segment.place()))?;
+            let (part, end) = (sliced.segment(&found), found.file_part().end());
+            return Some(Conflict::past(table.part, part, table.end, end));
         }
     }
     None
 }
 
 // The first encrypted range that shares a byte with the table.
-fn encrypted(sliced: &Sliced, image: &Image, table: &Bounded) -> Option<Conflict> {
+fn encrypted(sliced: &Sliced, image: &Image, table: &Bounded) -> Option<Conflict>
+    requires { IsPartOf sliced.now.held.place table.now.span table.now.part }
+    ensures { IfSome result (IsHomelessShown (bytes_of sliced.now.held.bytes)) }
+{
     for command in image.commands() {
         if command.cmd == LC_ENCRYPTION_INFO_64
             && let Some(conflict) = sharing_range(sliced, table, command.place)
@@ -65,7 +90,10 @@ fn encrypted(sliced: &Sliced, image: &Image, table: &Bounded) -> Option<Conflict
 }
 
 // The encrypted range of the command at a place, if it shares a byte with the table.
-fn sharing_range(sliced: &Sliced, table: &Bounded, command: u64) -> Option<Conflict> {
+fn sharing_range(sliced: &Sliced, table: &Bounded, command: u64) -> Option<Conflict>
+    requires { IsPartOf sliced.now.held.place table.now.span table.now.part }
+    ensures { IfSome result Share }
+{
     let fields = tables_of(LC_ENCRYPTION_INFO_64).first()?;
     let range = table_by(sliced, command, *fields, 0);
     let (first, last) = shared(table.span, range.span)?;

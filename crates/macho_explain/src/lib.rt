@@ -2,7 +2,8 @@
 //! Why a file is refused: what is at the place of the verdict, and which parts and numbers conflict there.
 
 mod chains;
-mod conflict;
+mod command;
+pub mod conflict;
 mod directory;
 mod element;
 mod entries;
@@ -21,7 +22,7 @@ mod section;
 mod segment;
 mod signature;
 mod sliced;
-mod spot;
+pub mod spot;
 mod stream;
 mod symbol;
 mod table;

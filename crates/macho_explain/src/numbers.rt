@@ -1,7 +1,11 @@
 //! The two numbers that a rule compares, which are not as it says.
 
-ghost use Rattle.std.specs.Prelude.{IfSome};
+ghost use Rattle.std.specs.Prelude.{◌≡◌, IfSome, Some, None};
+ghost use Rattle.macho_explain.specs.Parts.{conflict_of};
 ghost use Rattle.macho_explain.specs.Signatures.{Differ, IsAbove, IsBelow};
+
+use crate::conflict::Conflict;
+use crate::part::Part;
 
 // The numbers.
 #[derive(Clone, Copy)]
@@ -11,6 +15,13 @@ pub(crate) struct Numbers {
 }
 
 impl Numbers {
+    // What these numbers show of a part.
+    pub(crate) fn of(self, part: Part) -> Conflict
+        ensures { result ≡ conflict_of (Some part) None self.value self.limit }
+    {
+        Conflict::alone(part, self.value, self.limit)
+    }
+
     // Numbers that have to be the same, if they are not.
     pub(crate) fn differing(value: u64, limit: u64) -> Option<Numbers>
         ensures { IfSome result (λ n. Differ n.value n.limit value limit) }

@@ -4,15 +4,15 @@ ghost use Rattle.std.specs.Prelude.{◌≡◌, IfSome};
 ghost use Rattle.macho_fields.specs.Bytes.{bytes_of};
 ghost use Rattle.macho_fields.specs.declared.rule.Rule.{Rule};
 ghost use Rattle.macho_chains.specs.ChainPointers.{pointer_of};
-ghost use Rattle.macho_explain.specs.Compared.{IsFound};
+ghost use Rattle.macho_explain.specs.Explained.{ExplainsIn};
 ghost use Rattle.macho_explain.specs.Explain.{long_at};
 
-use crate::chains::{Chains, header_at};
+use crate::chains::{Chains, chains_of, header_at};
 use crate::conflict::Conflict;
-use crate::part::{CHAIN_POINTER, CHAIN_STARTS, PAGE_START, Part};
+use crate::explanation::Explanation;
+use crate::part::{Part, PartKind};
 use crate::segment::segment_at;
 use crate::sliced::Sliced;
-use crate::spot::Spot;
 use macho_chains::chain_pages::plain_room;
 use macho_chains::chain_pointers::ChainPointer;
 use macho_chains::chain_starts::SegmentStarts;
@@ -43,35 +43,42 @@ struct Lead {
     next: u64,
 }
 
-// Explains the page start, or the pointer, at the place: there is no room for the pointer to which it leads.
-pub(crate) fn chain_slot(sliced: &Sliced, chains: &Chains, place: u64) -> Option<(Spot, Conflict)>
-    ensures { IfSome result (IsFound Rule.ChainSlot (bytes_of sliced.now.held.bytes) place) }
+// The page start, or the pointer, at the place: there is no room for the pointer to which it leads.
+pub(crate) fn chain_slot(sliced: &Sliced) -> Option<Explanation>
+    ensures { ExplainsIn Rule.ChainSlot sliced.now result }
 {
-    let segment = find_chained(&sliced.held.open()?, chains, place)?;
-    let lead = match page_at(chains, &segment.starts, place) {
-        Some(page) => from_start(sliced, &segment, page, place)?,
-        None => from_pointer(sliced, &segment, place)?.0,
+    let chains = chains_of(sliced)?;
+    let segment = find_chained(&sliced.held.open()?, &chains, sliced.place)?;
+    let lead = match page_at(&chains, &segment.starts, sliced.place) {
+        Some(page) => from_start(sliced, &segment, page, sliced.place)?,
+        None => from_pointer(sliced, &segment, sliced.place)?.0,
     };
-    let starts = starts_part(sliced, chains, &segment);
-    let part = segment_at(sliced, segment.command);
+    let starts = starts_part(sliced, &chains, &segment);
     let end = lead.next.saturating_add(POINTER_SIZE);
     let limit = segment.starts.page_limit(lead.page, segment.room);
-    Some((Spot::of(lead.at), Conflict::of(starts, part, end, limit)))
+    Some(
+        sliced.at(lead.at).shows(Conflict {
+            second: segment_at(sliced, segment.command),
+            ..Conflict::alone(starts, end, limit)
+        }),
+    )
 }
 
-// Explains the pointer at the place that binds an import which is not there.
-pub(crate) fn chain_bind(sliced: &Sliced, chains: &Chains, place: u64) -> Option<(Spot, Conflict)>
-    ensures { IfSome result (IsFound Rule.ChainBind (bytes_of sliced.now.held.bytes) place) }
+// The pointer at the place, which binds an import that is not there.
+pub(crate) fn chain_bind(sliced: &Sliced) -> Option<Explanation>
+    ensures { ExplainsIn Rule.ChainBind sliced.now result }
 {
-    let segment = find_chained(&sliced.held.open()?, chains, place)?;
-    let (lead, pointer) = from_pointer(sliced, &segment, place)?;
+    let chains = chains_of(sliced)?;
+    let segment = find_chained(&sliced.held.open()?, &chains, sliced.place)?;
+    let (lead, pointer) = from_pointer(sliced, &segment, sliced.place)?;
     let header = header_at(sliced, &chains.table, chains.table.span.start)?;
-    let part = segment_at(sliced, segment.command);
     let count = u64::from(chains.header.imports_count);
-    Some((
-        Spot::of(lead.at),
-        Conflict::of(header, part, pointer.import?, count),
-    ))
+    Some(
+        sliced.at(lead.at).shows(Conflict {
+            second: segment_at(sliced, segment.command),
+            ..Conflict::alone(header, pointer.import?, count)
+        }),
+    )
 }
 
 // The first segment that has a page start at the place, or the place itself.
@@ -114,7 +121,12 @@ fn from_start(sliced: &Sliced, segment: &Chained, page: u16, place: u64) -> Opti
         return None;
     }
     Some(Lead {
-        at: sliced.structure(PAGE_START, place, PAGE_START_SIZE, u32::from(page)),
+        at: sliced.structure(
+            PartKind::PageStart,
+            place,
+            PAGE_START_SIZE,
+            Some(u32::from(page)),
+        ),
         page,
         next: segment.starts.page_offset(page) + u64::from(start),
     })
@@ -130,7 +142,12 @@ fn from_pointer(sliced: &Sliced, segment: &Chained, place: u64) -> Option<(Lead,
     let page = u16::try_from(offset.checked_div(page_size)?).ok()?;
     let pointer = ChainPointer::of(segment.starts.format, sliced.long(place));
     let lead = Lead {
-        at: sliced.structure(CHAIN_POINTER, place, POINTER_SIZE, u32::from(page)),
+        at: sliced.structure(
+            PartKind::ChainPointer,
+            place,
+            POINTER_SIZE,
+            Some(u32::from(page)),
+        ),
         page,
         next: offset.saturating_add(pointer.distance),
     };
@@ -145,5 +162,5 @@ fn starts_part(sliced: &Sliced, chains: &Chains, segment: &Chained) -> Part {
         len: u64::from(segment.starts.size),
     };
     let entry = table.saturating_add(chains.entry_offset(segment.index));
-    sliced.described(CHAIN_STARTS, span, entry, segment.index)
+    sliced.described(PartKind::ChainStarts, span, entry, Some(segment.index))
 }

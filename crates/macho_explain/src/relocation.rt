@@ -3,17 +3,18 @@
 ghost use Rattle.std.specs.Prelude.{◌≡◌, IfSome};
 ghost use Rattle.macho_fields.specs.Bytes.{bytes_of};
 ghost use Rattle.macho_fields.specs.declared.rule.Rule.{Rule};
-ghost use Rattle.macho_explain.specs.Compared.{IsFound, IsRelocationShown};
+ghost use Rattle.macho_explain.specs.Compared.{IsRelocationShown};
+ghost use Rattle.macho_explain.specs.Explained.{ExplainsIn};
 
 use crate::conflict::Conflict;
-use crate::part::{Part, RELOCATION, RELOCATIONS, index_of};
+use crate::explanation::Explanation;
+use crate::part::{Part, PartKind, index_of};
 use crate::sliced::Sliced;
-use crate::spot::Spot;
 use crate::table::table_with;
 use crate::walk::{Sought, walk_to};
+use macho_fields::Span;
 use macho_fields::header::loader::LC_DYSYMTAB;
 use macho_fields::header::reloc::{POINTER_LENGTH, RELOCATION_INFO_SIZE};
-use macho_fields::{Rule, Span};
 use macho_image::Image;
 use macho_symbols::reloc::Relocation;
 use macho_symbols::relocations::Named;
@@ -31,35 +32,28 @@ struct Relocations {
     start: u64,
 }
 
-// Explains the relocation that begins at the place.
-pub(crate) fn explain_relocation(
-    sliced: &Sliced,
-    rule: Rule,
-    place: u64,
-) -> Option<(Spot, Conflict)>
-    ensures { IfSome result (IsFound rule (bytes_of sliced.now.held.bytes) place) }
+// The relocation that begins at the place.
+pub(crate) fn relocation(sliced: &Sliced) -> Option<Explanation>
+    ensures { ExplainsIn Rule.Relocation sliced.now result }
 {
     let image = sliced.held.open()?;
-    let table = match of_section(sliced, &image, place) {
+    let table = match of_section(sliced, &image, sliced.place) {
         Some(table) => table,
-        None => of_dysymtab(sliced, place)?,
+        None => of_dysymtab(sliced, sliced.place)?,
     };
     let whole = Span {
-        start: place,
+        start: sliced.place,
         len: RELOCATION_INFO_SIZE,
     };
-    let past = place.checked_sub(table.start)?;
-    let is_one = past % RELOCATION_INFO_SIZE == 0 && sliced.held.bytes.contains(whole);
-    if rule != Rule::Relocation || !is_one {
+    let past = sliced.place.checked_sub(table.start)?;
+    if past % RELOCATION_INFO_SIZE != 0 || !sliced.held.bytes.contains(whole) {
         return None;
     }
     let index = index_of(past / RELOCATION_INFO_SIZE);
-    let at = sliced.structure(RELOCATION, place, RELOCATION_INFO_SIZE, index);
-    let relocation = Relocation::read(sliced.held.bytes, place);
-    Some((
-        Spot::of(at),
-        relocation_conflict(&image, table.part, relocation),
-    ))
+    let part = sliced.structure(PartKind::Relocation, sliced.place, whole.len, index);
+    let relocation = Relocation::read(sliced.held.bytes, sliced.place);
+    let conflict = relocation_conflict(&image, table.part, relocation);
+    Some(sliced.at(part).shows(conflict))
 }
 
 // The relocations of a section that have the place.
@@ -71,7 +65,12 @@ fn of_section(sliced: &Sliced, image: &Image, place: u64) -> Option<Relocations>
             len: section.nreloc().saturating_mul(RELOCATION_INFO_SIZE),
         };
         if span.holds(place) {
-            let part = sliced.described(RELOCATIONS, span, section.place(), index_of(index));
+            let part = sliced.described(
+                PartKind::Relocations,
+                span,
+                section.place(),
+                index_of(index),
+            );
             return Some(Relocations {
                 part,
                 start: span.start,

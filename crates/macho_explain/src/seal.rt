@@ -7,18 +7,18 @@ ghost use Rattle.macho_fields.specs.declared.rule.Rule.{Rule};
 ghost use Rattle.macho_sealed.specs.Specials.{is_special_slot as is_special_slot_of};
 ghost use Rattle.macho_signature.specs.CodeDirectories.{HasSlots};
 ghost use Rattle.macho_signature.specs.Superblobs.{blob_at, blob_end};
-ghost use Rattle.macho_explain.specs.Compared.{IsFound};
+ghost use Rattle.macho_explain.specs.Explained.{ExplainsIn};
 ghost use Rattle.macho_explain.specs.Seals.{IsDirectoryOf, IsHashed, IsHashShown, IsOtherShown, IsPageShown, IsSpecialShown, place_of};
 
 use crate::conflict::Conflict;
-use crate::part::{BYTE, CODE_HASH, CODE_PAGE, HEADER, NO_INDEX, NO_PART, Part, SIGNATURE_ENTRY};
-use crate::signature::{Signature, index_at, signature_of};
+use crate::explanation::Explanation;
+use crate::header::header_here;
+use crate::part::{Part, PartKind};
+use crate::signature::{Signature, Within, place_in, signature_of};
 use crate::sliced::Sliced;
-use crate::spot::Spot;
 use crate::walk::{Sought, walk_to};
-use macho_fields::header::cs_blobs::CS_BLOB_INDEX_SIZE;
-use macho_fields::header::loader::{LC_CODE_SIGNATURE, MACH_HEADER_64_SIZE};
-use macho_fields::{Bytes, Rule, Span};
+use macho_fields::header::loader::LC_CODE_SIGNATURE;
+use macho_fields::{Bytes, Span};
 use macho_sealed::digest::has_hash;
 use macho_sealed::pages::{code_slot, page_at};
 use macho_sealed::specials::{has_special_hash, is_special_slot, special_slot};
@@ -27,52 +27,38 @@ use macho_signature::{Blob, CodeDirectory};
 // How many code directories are looked at: no signature with another in each slot has more.
 const MOST_DIRECTORIES: u32 = 6;
 
-// Explains a rule of the sealed profile that is broken at the place.
-pub(crate) fn explain_seal(sliced: &Sliced, rule: Rule, place: u64) -> Option<(Spot, Conflict)>
-    ensures { IfSome result (IsFound rule (bytes_of sliced.now.held.bytes) place) }
+// No code directory is in the slot 0: the command that should name a signature, if there is one.
+pub(crate) fn signature_missing(sliced: &Sliced) -> Option<Explanation>
+    ensures { ExplainsIn Rule.SignatureMissing sliced.now result }
 {
-    match rule {
-        Rule::SignatureMissing => signature_missing(sliced, place),
-        Rule::DirectoryRepeated => directory_repeated(sliced, place),
-        Rule::SignatureSlack => signature_slack(sliced, place),
-        Rule::SignatureHash => signature_hash(sliced, place),
-        _ => None,
-    }
-}
-
-// Explains that no code directory is in the slot 0: of the command that should name a signature, if there is one.
-fn signature_missing(sliced: &Sliced, place: u64) -> Option<(Spot, Conflict)>
-    ensures { IfSome result (IsFound Rule.SignatureMissing (bytes_of sliced.now.held.bytes) place) }
-{
-    if place != 0 {
+    let at = header_here(sliced)?;
+    if sliced.place > 0 {
         return None;
     }
-    let size = sliced.held.bytes.len().min(MACH_HEADER_64_SIZE);
-    let at = sliced.structure(HEADER, 0, size, NO_INDEX);
-    let command = match walk_to(sliced.held.bytes, Sought::First(LC_CODE_SIGNATURE)) {
-        Some(walked) => sliced.command(&walked),
-        None => NO_PART,
-    };
-    Some((Spot::of(at), Conflict::alone(command, 0, 1)))
+    let walked = walk_to(sliced.held.bytes, Sought::First(LC_CODE_SIGNATURE));
+    Some(at.shows(Conflict {
+        first: walked.map(|walked| sliced.command(&walked)),
+        ..Conflict::numbers(0, 1)
+    }))
 }
 
-// Explains the entry at the place: an earlier one has the same slot of code directories.
-fn directory_repeated(sliced: &Sliced, place: u64) -> Option<(Spot, Conflict)>
-    ensures { IfSome result (IsFound Rule.DirectoryRepeated (bytes_of sliced.now.held.bytes) place) }
+// The entry at the place: an earlier one has the same slot of code directories.
+pub(crate) fn directory_repeated(sliced: &Sliced) -> Option<Explanation>
+    ensures { ExplainsIn Rule.DirectoryRepeated sliced.now result }
 {
     let signature = signature_of(sliced)?;
-    let offset = place.checked_sub(signature.table.span.start)?;
-    let index = index_at(offset)?;
+    let Within::Entry(at, index) = place_in(sliced, &signature)? else {
+        return None;
+    };
     let later = signature.placed_blob(index)?;
     let (first, earlier) = first_in_slot(&signature, later.slot)?;
     if first >= index || !later.is_directory() {
         return None;
     }
-    let at = sliced.structure(SIGNATURE_ENTRY, place, CS_BLOB_INDEX_SIZE, index);
     let one = signature.blob_part(sliced, index, later.span());
     let other = signature.blob_part(sliced, first, earlier.span());
     let slot = u64::from(later.slot);
-    Some((Spot::of(at), Conflict::of(one, other, slot, slot)))
+    Some(at.shows(Conflict::of(one, other, slot, slot)))
 }
 
 // The first blob in a slot, and the index of its entry.
@@ -89,17 +75,16 @@ fn first_in_slot(signature: &Signature, slot: u32) -> Option<(u32, Blob)>
     None
 }
 
-// Explains the byte at the place, which is past the start of the signature and in no part of it.
-fn signature_slack(sliced: &Sliced, place: u64) -> Option<(Spot, Conflict)>
-    ensures { IfSome result (IsFound Rule.SignatureSlack (bytes_of sliced.now.held.bytes) place) }
+// The byte at the place, which is past the start of the signature and in no part of it.
+pub(crate) fn signature_slack(sliced: &Sliced) -> Option<Explanation>
+    ensures { ExplainsIn Rule.SignatureSlack sliced.now result }
 {
+    let (at, byte) = sliced.byte()?;
     let signature = signature_of(sliced)?;
-    if place < signature.table.span.start {
+    if sliced.place < signature.table.span.start {
         return None;
     }
-    let byte = u64::from(sliced.held.bytes.u8_at(place)?);
-    let at = sliced.structure(BYTE, place, 1, NO_INDEX);
-    Some((Spot::of(at), Conflict::alone(signature.table.part, byte, 0)))
+    Some(at.shows(Conflict::alone(signature.table.part, byte, 0)))
 }
 
 // What code directories have a hash of.
@@ -111,17 +96,17 @@ enum Hashed {
     Special(u32, Blob),
 }
 
-// Explains the page, or the blob of the signature, at the place: a code directory has another hash.
-fn signature_hash(sliced: &Sliced, place: u64) -> Option<(Spot, Conflict)>
-    ensures { IfSome result (IsFound Rule.SignatureHash (bytes_of sliced.now.held.bytes) place) }
+// The page, or the blob of the signature, at the place: a code directory has another hash.
+pub(crate) fn signature_hash(sliced: &Sliced) -> Option<Explanation>
+    ensures { ExplainsIn Rule.SignatureHash sliced.now result }
 {
     let signature = signature_of(sliced)?;
-    let hashed = match place.checked_sub(signature.table.span.start) {
+    let hashed = match sliced.place.checked_sub(signature.table.span.start) {
         Some(offset) => special_at(&signature, offset)?,
-        None => Hashed::Page(place),
+        None => Hashed::Page(sliced.place),
     };
     let conflict = first_other_hash(sliced, &signature, hashed)?;
-    Some((Spot::of(conflict.first), conflict))
+    Some(sliced.at(conflict.first?).shows(conflict))
 }
 
 // The first blob in a special slot that begins at an offset of a signature.
@@ -227,7 +212,7 @@ fn other_page(
         return None;
     }
     let by = signature.place_of_blob(directory.blob);
-    let first = sliced.described(CODE_PAGE, page, by, index);
+    let first = sliced.described(PartKind::CodePage, page, by, Some(index));
     let second = hash_part(sliced, by, slot, index);
     let (number, count) = (u64::from(index), u64::from(fields.code_slots));
     Some(Conflict::of(first, second, number, count))
@@ -286,5 +271,5 @@ fn hash_part(sliced: &Sliced, directory: u64, slot: Span, index: u32) -> Part {
         start: directory.saturating_add(slot.start),
         len: slot.len,
     };
-    sliced.described(CODE_HASH, span, directory, index)
+    sliced.described(PartKind::CodeHash, span, directory, Some(index))
 }

@@ -1,17 +1,19 @@
 //! The rules of segments. (`mach-o/loader.h`: `segment_command_64`)
 
-ghost use Rattle.std.specs.Prelude.{◌≡◌, ◌↔◌, ◌<◌, IfSome, IsTrue};
+ghost use Rattle.std.specs.Prelude.{◌≡◌, ◌↔◌, ◌<◌, IfSome, IsTrue, MatchOption};
 ghost use Rattle.macho_fields.specs.Bytes.{bytes_of};
 ghost use Rattle.macho_fields.specs.declared.rule.Rule.{Rule};
-ghost use Rattle.macho_explain.specs.Compared.{IsFound, ShowsConflict};
-ghost use Rattle.macho_explain.specs.Explain.{IsSegmentFound, MeetsSegment, IsSegmentRow};
+ghost use Rattle.macho_explain.specs.Compared.{HasSegment};
+ghost use Rattle.macho_explain.specs.Explained.{ExplainsIn, IsSpot};
+ghost use Rattle.macho_explain.specs.Explain.{IsSegmentFound, IsSegmentRow, MayMeet, MeetsSegment, NoSegmentMeets};
 
+use crate::command::command_here;
 use crate::conflict::{Conflict, shared};
-use crate::part::{NO_PART, Part};
+use crate::explanation::Explanation;
+use crate::part::{Part, index_of};
 use crate::sliced::Sliced;
-use crate::spot::{Spot, command_spot};
-use crate::walk::{Sought, walk_to};
-use macho_fields::{Rule, Span};
+use crate::spot::Spot;
+use macho_fields::Span;
 use macho_rows::cursor::START;
 use macho_rows::load::{Wanted, next_wanted};
 use macho_rows::segments::{KesvuotSegment, row_of};
@@ -20,7 +22,7 @@ use macho_rows::segments::{KesvuotSegment, row_of};
 #[derive(Clone, Copy)]
 pub(crate) struct SegmentAt {
     pub(crate) place: u64,
-    pub(crate) index: u32,
+    pub(crate) index: Option<u32>,
     pub(crate) row: KesvuotSegment,
 }
 
@@ -45,36 +47,49 @@ pub(crate) enum SegmentWith {
 
 // The first segment that is sought, if there is one.
 pub(crate) fn find_segment(sliced: &Sliced, wanted: SegmentWith) -> Option<SegmentAt>
-    ensures { IfSome result (IsSegmentFound (bytes_of sliced.now.held.bytes) wanted) }
+    ensures { MatchOption result (NoSegmentMeets (bytes_of sliced.now.held.bytes) wanted)
+        (IsSegmentFound (bytes_of sliced.now.held.bytes) wanted) }
 {
     let mut cursor = START;
-    let mut index: u32 = 0;
+    let mut index: u64 = 0;
     while let Some(load) = next_wanted(sliced.held.bytes, &mut cursor, Wanted::Segments) {
         let segment = SegmentAt {
             place: load.place,
-            index,
+            index: index_of(index),
             row: row_of(&sliced.held, load.place, 0),
         };
         if segment.is_wanted(wanted) {
             return Some(segment);
         }
-        index = index.checked_add(1)?;
+        index = index.saturating_add(1);
     }
     None
 }
 
 // The file bytes of the segment whose command begins at a place, as a part.
-pub(crate) fn segment_at(sliced: &Sliced, place: u64) -> Part {
-    match find_segment(sliced, SegmentWith::Command(place)) {
-        Some(segment) => sliced.segment(&segment),
-        None => NO_PART,
-    }
+pub(crate) fn segment_at(sliced: &Sliced, place: u64) -> Option<Part> {
+    let segment = find_segment(sliced, SegmentWith::Command(place))?;
+    Some(sliced.segment(&segment))
+}
+
+// The segment whose command begins at the place.
+fn segment_here(sliced: &Sliced) -> Option<(Spot, SegmentAt)>
+    ensures { MatchOption result (¬ HasSegment (bytes_of sliced.now.held.bytes) sliced.now.place)
+        (λ found. IsSpot sliced.now found.0
+        × IsSegmentRow (bytes_of sliced.now.held.bytes) found.1 × (found.1.place ≡ sliced.now.place)) }
+{
+    let (at, _) = command_here(sliced)?;
+    Some((
+        at,
+        find_segment(sliced, SegmentWith::Command(sliced.place))?,
+    ))
 }
 
 impl SegmentAt {
     // Whether the segment is the one that is sought.
     fn is_wanted(&self, wanted: SegmentWith) -> bool
-        ensures { IsTrue result → MeetsSegment wanted self.now }
+        ensures meets { IsTrue result → MeetsSegment wanted self.now }
+        ensures command { MayMeet wanted self.now.place → IsTrue result }
     {
         let row = &self.row;
         match wanted {
@@ -115,87 +130,56 @@ impl SegmentAt {
     }
 }
 
-// Explains a rule of the segment whose command begins at the place.
-pub(crate) fn explain_segment(sliced: &Sliced, rule: Rule, place: u64) -> Option<(Spot, Conflict)>
-    ensures { IfSome result (IsFound rule (bytes_of sliced.now.held.bytes) place) }
-{
-    let walked = walk_to(sliced.held.bytes, Sought::At(place))?;
-    let segment = find_segment(sliced, SegmentWith::Command(place))?;
-    let conflict = segment_conflict(sliced, rule, &segment)?;
-    Some((command_spot(sliced, &walked, place), conflict))
-}
-
-// What conflicts with a segment.
-fn segment_conflict(sliced: &Sliced, rule: Rule, segment: &SegmentAt) -> Option<Conflict>
-    requires { IsSegmentRow (bytes_of sliced.now.held.bytes) segment.now }
-    ensures { IfSome result (ShowsConflict rule (bytes_of sliced.now.held.bytes) segment.now.place) }
-{
-    match rule {
-        Rule::SegmentAddress => Some(segment_address(sliced, segment)),
-        Rule::SegmentSize => Some(segment_size(sliced, segment)),
-        Rule::SegmentFile => Some(segment_file(sliced, segment)),
-        Rule::SegmentOverlap => segment_overlap(sliced, segment),
-        Rule::SegmentFileOverlap => segment_file_overlap(sliced, segment),
-        _ => None,
-    }
-}
-
 // The addresses of a segment, and how many there are from its start on.
-fn segment_address(sliced: &Sliced, segment: &SegmentAt) -> Conflict
-    requires { IsSegmentRow (bytes_of sliced.now.held.bytes) segment.now }
-    ensures { ShowsConflict Rule.SegmentAddress (bytes_of sliced.now.held.bytes) segment.now.place result }
+pub(crate) fn segment_address(sliced: &Sliced) -> Option<Explanation>
+    ensures { ExplainsIn Rule.SegmentAddress sliced.now result }
 {
+    let (at, segment) = segment_here(sliced)?;
     let room = (u64::MAX - segment.row.vmaddr).saturating_add(1);
-    Conflict::alone(sliced.memory(segment), segment.row.vmsize, room)
+    let part = sliced.memory(&segment);
+    Some(at.shows(Conflict::alone(part, segment.row.vmsize, room)))
 }
 
 // The sizes of a segment in the file and in memory.
-fn segment_size(sliced: &Sliced, segment: &SegmentAt) -> Conflict
-    requires { IsSegmentRow (bytes_of sliced.now.held.bytes) segment.now }
-    ensures { ShowsConflict Rule.SegmentSize (bytes_of sliced.now.held.bytes) segment.now.place result }
+pub(crate) fn segment_size(sliced: &Sliced) -> Option<Explanation>
+    ensures { ExplainsIn Rule.SegmentSize sliced.now result }
 {
-    Conflict::of(
-        sliced.segment(segment),
-        sliced.memory(segment),
-        segment.row.filesize,
-        segment.row.vmsize,
-    )
+    let (at, segment) = segment_here(sliced)?;
+    let (bytes, memory) = (sliced.segment(&segment), sliced.memory(&segment));
+    let row = segment.row;
+    Some(at.shows(Conflict::of(bytes, memory, row.filesize, row.vmsize)))
 }
 
 // Where the file bytes of a segment end, and the image.
-fn segment_file(sliced: &Sliced, segment: &SegmentAt) -> Conflict
-    requires { IsSegmentRow (bytes_of sliced.now.held.bytes) segment.now }
-    ensures { ShowsConflict Rule.SegmentFile (bytes_of sliced.now.held.bytes) segment.now.place result }
+pub(crate) fn segment_file(sliced: &Sliced) -> Option<Explanation>
+    ensures { ExplainsIn Rule.SegmentFile sliced.now result }
 {
-    Conflict::past(
-        sliced.segment(segment),
-        sliced.part,
-        segment.file_part().end(),
-        u128::from(sliced.held.bytes.len()),
-    )
+    let (at, segment) = segment_here(sliced)?;
+    let (bytes, end) = (sliced.segment(&segment), segment.file_part().end());
+    let len = u128::from(sliced.held.bytes.len());
+    Some(at.shows(Conflict::past(bytes, sliced.whole(), end, len)))
 }
 
 // The first earlier segment that has an address of a segment.
-fn segment_overlap(sliced: &Sliced, segment: &SegmentAt) -> Option<Conflict>
-    ensures { IfSome result (ShowsConflict Rule.SegmentOverlap (bytes_of sliced.now.held.bytes) segment.now.place) }
+pub(crate) fn segment_overlap(sliced: &Sliced) -> Option<Explanation>
+    ensures { ExplainsIn Rule.SegmentOverlap sliced.now result }
 {
+    let (at, segment) = segment_here(sliced)?;
     let own = segment.memory();
     let earlier = find_segment(sliced, SegmentWith::SharingMemory(own, segment.place))?;
     let (first, last) = shared(own, earlier.memory())?;
-    Some(Conflict::of(sliced.memory(segment), sliced.memory(&earlier), first, last))
+    let (one, other) = (sliced.memory(&segment), sliced.memory(&earlier));
+    Some(at.shows(Conflict::of(one, other, first, last)))
 }
 
 // The first earlier segment that has a file byte of a segment.
-fn segment_file_overlap(sliced: &Sliced, segment: &SegmentAt) -> Option<Conflict>
-    ensures { IfSome result (ShowsConflict Rule.SegmentFileOverlap (bytes_of sliced.now.held.bytes) segment.now.place) }
+pub(crate) fn segment_file_overlap(sliced: &Sliced) -> Option<Explanation>
+    ensures { ExplainsIn Rule.SegmentFileOverlap sliced.now result }
 {
+    let (at, segment) = segment_here(sliced)?;
     let own = segment.file_part();
     let earlier = find_segment(sliced, SegmentWith::SharingFile(own, segment.place))?;
     let (first, last) = shared(own, earlier.file_part())?;
-    Some(sliced.sharing(
-        sliced.segment(segment),
-        sliced.segment(&earlier),
-        first,
-        last,
-    ))
+    let (one, other) = (sliced.segment(&segment), sliced.segment(&earlier));
+    Some(at.shows(sliced.sharing(one, other, first, last)))
 }

@@ -1,26 +1,27 @@
 //! The rules of code signatures. (`cs_blobs.h`: `CS_SuperBlob`, `CS_BlobIndex`, `CS_CodeDirectory`)
 
-ghost use Rattle.std.specs.Prelude.{◌≡◌, ◌+◌, ◌^◌, ◌≤◌, ◌<◌, length, IfSome, IsSomeAnd};
+ghost use Rattle.std.specs.Prelude.{◌≡◌, ◌+◌, ◌^◌, ◌≤◌, ◌<◌, length, IfSome, IsSomeAnd, Some};
 ghost use Rattle.macho_fields.specs.Bytes.{bytes_of};
+ghost use Rattle.macho_fields.specs.declared.rule.Rule.{Rule};
 ghost use Rattle.macho_signature.specs.CodeDirectories.{code_directory};
 ghost use Rattle.macho_signature.specs.Signature.{bytes_at};
 ghost use Rattle.macho_signature.specs.Superblobs.{big_word, blob_at, blob_count, blob_end, entry_offset as entry_offset_of, least_offset};
-ghost use Rattle.macho_explain.specs.Compared.{IsFound};
-ghost use Rattle.macho_explain.specs.Signatures.{Differ, IsBlobShown, IsSignatureOf, IsSuperblobShown, ShowsEntry, ShowsTable};
+ghost use Rattle.macho_explain.specs.Explained.{ExplainsIn, IsWithin};
+ghost use Rattle.macho_explain.specs.Signatures.{Differ, IsBlobShown, IsSignatureOf, IsSuperblobShown};
 
 use crate::conflict::Conflict;
 use crate::directory::bad_directory;
-use crate::functions::data_table;
+use crate::explanation::Explanation;
 use crate::numbers::Numbers;
-use crate::part::{BYTE, NO_INDEX, Part, SIGNATURE_BLOB, SIGNATURE_ENTRY};
+use crate::part::{Part, PartKind};
 use crate::sliced::Sliced;
 use crate::spot::Spot;
-use crate::table::Bounded;
+use crate::table::{Bounded, data_table};
 use macho_fields::header::cs_blobs::{
     CS_BLOB_INDEX_SIZE, CS_GENERIC_BLOB_SIZE, CS_SUPER_BLOB_SIZE, CSMAGIC_EMBEDDED_SIGNATURE,
 };
 use macho_fields::header::loader::LC_CODE_SIGNATURE;
-use macho_fields::{Bytes, Order, Rule, Span};
+use macho_fields::{Bytes, Order, Span};
 use macho_signature::superblob::{
     COUNT, LENGTH, MAGIC, OFFSET, SUPER_BLOB_LENGTH, entry_offset, word_at,
 };
@@ -42,22 +43,68 @@ pub(crate) fn signature_of<'a>(sliced: &Sliced<'a>) -> Option<Signature<'a>>
     Some(Signature { table, bytes })
 }
 
-// Explains a rule of code signatures that is broken at the place.
-pub(crate) fn explain_signature(sliced: &Sliced, rule: Rule, place: u64) -> Option<(Spot, Conflict)>
-    ensures { IfSome result (IsFound rule (bytes_of sliced.now.held.bytes) place) }
+// The first byte of a signature that has no superblob; or an entry whose blob is misplaced.
+pub(crate) fn signature_blob(sliced: &Sliced) -> Option<Explanation>
+    ensures { ExplainsIn Rule.SignatureBlob sliced.now result }
 {
     let signature = signature_of(sliced)?;
-    let offset = place.checked_sub(signature.table.span.start)?;
+    let within = place_in(sliced, &signature)?;
+    match within {
+        Within::Start(at) => {
+            let numbers = superblob_numbers(signature.bytes)?;
+            Some(at.shows(numbers.of(signature.table.part)))
+        }
+        Within::Entry(at, index) => Some(at.shows(misplaced_blob(sliced, &signature, index)?)),
+    }
+}
+
+// The first byte of a signature with no code directory in the slot 0; or an entry whose blob is no sound one.
+pub(crate) fn signature_directory(sliced: &Sliced) -> Option<Explanation>
+    ensures { ExplainsIn Rule.SignatureDirectory sliced.now result }
+{
+    let signature = signature_of(sliced)?;
+    let within = place_in(sliced, &signature)?;
+    match within {
+        Within::Start(at) => Some(at.shows(Conflict::alone(signature.table.part, 0, 1))),
+        Within::Entry(at, index) => {
+            let conflict = bad_directory(sliced, &signature, index)?;
+            Some(at.shows(conflict))
+        }
+    }
+}
+
+// The entry of a code directory that does not cover the image up to the signature.
+pub(crate) fn signature_whole(sliced: &Sliced) -> Option<Explanation>
+    ensures { ExplainsIn Rule.SignatureWhole sliced.now result }
+{
+    let signature = signature_of(sliced)?;
+    match place_in(sliced, &signature)? {
+        Within::Start(_) => None,
+        Within::Entry(at, index) => Some(at.shows(other_limit(sliced, &signature, index)?)),
+    }
+}
+
+// Where in a signature the place is: at its first byte, or at an entry with an index.
+#[derive(Clone, Copy)]
+pub(crate) enum Within {
+    Start(Spot),
+    Entry(Spot, u32),
+}
+
+// What is at the place.
+pub(crate) fn place_in(sliced: &Sliced, signature: &Signature) -> Option<Within>
+    ensures { IfSome result (IsWithin sliced.now
+        signature.now.table.span.start) }
+{
+    let offset = sliced.place.checked_sub(signature.table.span.start)?;
     if offset == 0 {
-        let numbers = table_numbers(signature.bytes, rule)?;
-        let at = sliced.structure(BYTE, place, 1, NO_INDEX);
-        let conflict = Conflict::alone(signature.table.part, numbers.value, numbers.limit);
-        return Some((Spot::of(at), conflict));
+        let part = sliced.structure(PartKind::Byte, sliced.place, 1, None);
+        return Some(Within::Start(sliced.at(part)));
     }
     let index = index_at(offset)?;
-    let conflict = entry_conflict(sliced, &signature, rule, index)?;
-    let at = sliced.structure(SIGNATURE_ENTRY, place, CS_BLOB_INDEX_SIZE, index);
-    Some((Spot::of(at), conflict))
+    let size = CS_BLOB_INDEX_SIZE;
+    let part = sliced.structure(PartKind::SignatureEntry, sliced.place, size, Some(index));
+    Some(Within::Entry(sliced.at(part), index))
 }
 
 // The index of the entry at an offset of a signature.
@@ -69,35 +116,6 @@ pub(crate) fn index_at(offset: u64) -> Option<u32>
         return None;
     }
     u32::try_from(past / CS_BLOB_INDEX_SIZE).ok()
-}
-
-// What conflicts with the table that a signature is: it has no superblob, or no code directory of slot 0.
-fn table_numbers(signature: Bytes, rule: Rule) -> Option<Numbers>
-    ensures { IfSome result (λ n. ShowsTable rule (bytes_of signature.entry) n.value n.limit) }
-{
-    match rule {
-        Rule::SignatureBlob => superblob_numbers(signature),
-        Rule::SignatureDirectory => Some(Numbers { value: 0, limit: 1 }),
-        _ => None,
-    }
-}
-
-// What conflicts with the blob of an entry.
-fn entry_conflict(
-    sliced: &Sliced,
-    signature: &Signature,
-    rule: Rule,
-    index: u32,
-) -> Option<Conflict>
-    ensures { IfSome result (λ c. ShowsEntry rule signature.now.table.span.start
-        (bytes_of signature.now.bytes) index c.value c.limit) }
-{
-    match rule {
-        Rule::SignatureBlob => misplaced_blob(sliced, signature, index),
-        Rule::SignatureDirectory => bad_directory(sliced, signature, index),
-        Rule::SignatureWhole => other_limit(sliced, signature, index),
-        _ => None,
-    }
 }
 
 // Why a signature has no superblob: its size, its magic number, or where the superblob ends, or its index.
@@ -209,7 +227,7 @@ impl<'a> Signature<'a> {
 
     // The bytes at the places of a blob, and the entry that describes it.
     pub(crate) fn blob_part(&self, sliced: &Sliced, index: u32, blob: Span) -> Part
-        ensures { result.index ≡ index }
+        ensures { result.index ≡ Some index }
     {
         let start = self.table.span.start;
         let span = Span {
@@ -217,7 +235,7 @@ impl<'a> Signature<'a> {
             len: blob.len,
         };
         let entry = start.saturating_add(entry_offset(index));
-        sliced.described(SIGNATURE_BLOB, span, entry, index)
+        sliced.described(PartKind::SignatureBlob, span, entry, Some(index))
     }
 }
 

@@ -1,53 +1,48 @@
 //! What is at a place.
 
-ghost use Rattle.std.specs.Prelude.{◌≡◌};
-ghost use Rattle.macho_fields.specs.Bytes.{bytes_of};
-ghost use Rattle.macho_explain.specs.Compared.{IsSpot};
-ghost use Rattle.macho_explain.specs.Explain.{IsWalked};
+ghost use Rattle.std.specs.Prelude.{◌≡◌, Some, Option};
 ghost use Rattle.macho_explain.specs.Parts.{spot_of};
-ghost use Rattle.macho_explain.specs.declared.walk.Sought.TheVariants as sought;
 
-use crate::part::{NO_INDEX, Part};
-use crate::sliced::Sliced;
-use crate::walk::Walked;
+use crate::conflict::Conflict;
+use crate::explanation::Explanation;
+use crate::part::Part;
 
-// The structure, or the byte, at a place, and the indices of what it is or lies in.
+/// The structure, or the byte, at a place, and the indices of what it is or lies in.
 #[derive(Clone, Copy)]
-pub(crate) struct Spot {
-    pub(crate) at: Part,
-    pub(crate) command: u32,
-    pub(crate) section: u32,
-    pub(crate) symbol: u32,
+pub struct Spot {
+    pub part: Part,
+    /// The index of the slice, and of the command, the section and the symbol whose structure has the place.
+    pub slice: Option<u32>,
+    pub command: Option<u32>,
+    pub section: Option<u32>,
+    pub symbol: Option<u32>,
 }
 
 impl Spot {
     // A part that is outside all commands, and no symbol.
-    pub(crate) fn of(at: Part) -> Spot
-        ensures { result ≡ spot_of at }
+    pub(crate) fn of(slice: Option<u32>, part: Part) -> Spot
+        ensures { result ≡ spot_of slice part }
     {
         Spot {
-            at,
-            command: NO_INDEX,
-            section: NO_INDEX,
-            symbol: NO_INDEX,
+            part,
+            slice,
+            command: None,
+            section: None,
+            symbol: None,
         }
     }
 
     // A part in the command with this index.
-    pub(crate) fn in_command(at: Part, command: u32) -> Spot
-        ensures { result ≡ record (spot_of at) { command = command } }
+    pub(crate) fn in_command(self, command: Option<u32>) -> Spot
+        ensures { result ≡ record self { command = command } }
     {
-        Spot {
-            command,
-            ..Spot::of(at)
-        }
+        Spot { command, ..self }
     }
-}
 
-// The command that has a place, and its index.
-pub(crate) fn command_spot(sliced: &Sliced, walked: &Walked, place: u64) -> Spot
-    requires { IsWalked (bytes_of sliced.now.held.bytes) (sought.At place) walked.now }
-    ensures { IsSpot (bytes_of sliced.now.held.bytes) place result }
-{
-    Spot::in_command(sliced.command(walked), walked.index)
+    // What is explained by the parts that conflict.
+    pub(crate) fn shows(self, conflict: Conflict) -> Explanation
+        ensures { result ≡ record { at = self; conflict = conflict } }
+    {
+        Explanation { at: self, conflict }
+    }
 }

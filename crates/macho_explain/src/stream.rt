@@ -1,21 +1,23 @@
 //! The rules of the streams of opcodes that a dynamic loader follows. (`mach-o/loader.h`:
 //! `dyld_info_command`)
 
-ghost use Rattle.std.specs.Prelude.{◌≡◌, IfSome};
+ghost use Rattle.std.specs.Prelude.{◌≡◌, ◌≤◌, ◌⊎◌, length, IfSome};
+ghost use Rattle.macho_spans.specs.Span.{end_of};
 ghost use Rattle.macho_fields.specs.Bytes.{bytes_of};
 ghost use Rattle.macho_fields.specs.declared.rule.Rule.{Rule};
-ghost use Rattle.macho_explain.specs.Compared.{IsFound, ShowsConflict};
+ghost use Rattle.macho_explain.specs.Compared.{IsFileSize};
+ghost use Rattle.macho_explain.specs.Explained.{ExplainsIn, IsSpot};
 
 use crate::conflict::Conflict;
-use crate::part::{NO_INDEX, OPCODE, Part, below_zero, clamped};
-use crate::segment::segment_at;
+use crate::explanation::Explanation;
+use crate::part::{PartKind, below_zero, clamped};
+use crate::segment::{SegmentWith, find_segment};
 use crate::sliced::Sliced;
 use crate::spot::Spot;
 use crate::table::{Bounded, table_with};
 use crate::walk::{Sought, walk_to};
+use macho_fields::Bytes;
 use macho_fields::header::loader::{LC_DYLD_INFO, LC_DYLD_INFO_ONLY};
-use macho_fields::{Bytes, Rule};
-use macho_image::Image;
 use macho_opcodes::cursor::Cursor;
 use macho_opcodes::step::{Opcodes, Step, step_at};
 use macho_opcodes::stream::Limits;
@@ -50,22 +52,37 @@ struct Reached {
     next: u64,
 }
 
-// Explains a rule of the opcode at the place.
-pub(crate) fn explain_stream(sliced: &Sliced, rule: Rule, place: u64) -> Option<(Spot, Conflict)>
-    ensures { IfSome result (IsFound rule (bytes_of sliced.now.held.bytes) place) }
+// An opcode at the place, and the stream that has it.
+#[derive(Clone, Copy)]
+struct OpcodeHere<'a> {
+    at: Spot,
+    stream: Stream<'a>,
+    reached: Reached,
+}
+
+// The opcode at the place.
+fn opcode_here<'a>(sliced: &Sliced<'a>) -> Option<OpcodeHere<'a>>
+    ensures spot { IfSome result (λ here. IsSpot sliced.now here.at) }
+    ensures inside { IfSome result (λ here.
+        end_of here.stream.table.span ≤ length (bytes_of sliced.now.held.bytes)) }
 {
-    let image = sliced.held.open()?;
-    let stream = stream_with(sliced, place)?;
-    let offset = place.checked_sub(stream.table.span.start)?;
+    let stream = stream_with(sliced, sliced.place)?;
+    let offset = sliced.place.checked_sub(stream.table.span.start)?;
     let reached = reach_opcode(&stream, offset)?;
     let size = reached.next.saturating_sub(offset);
-    let at = sliced.structure(OPCODE, place, size, NO_INDEX);
-    let conflict = opcode_conflict(sliced, &image, rule, &stream, &reached, place)?;
-    Some((Spot::of(at), conflict))
+    let part = sliced.structure(PartKind::Opcode, sliced.place, size, None);
+    Some(OpcodeHere {
+        at: sliced.at(part),
+        stream,
+        reached,
+    })
 }
 
 // The first stream that has the place.
-fn stream_with<'a>(sliced: &Sliced<'a>, place: u64) -> Option<Stream<'a>> {
+fn stream_with<'a>(sliced: &Sliced<'a>, place: u64) -> Option<Stream<'a>>
+    ensures { IfSome result (λ stream.
+        end_of stream.table.span ≤ length (bytes_of sliced.now.held.bytes)) }
+{
     let load = dyld_info(sliced)?;
     for index in 0..STREAMS {
         let table = table_with(sliced, load, index)?;
@@ -144,41 +161,105 @@ fn reached_at(
     }
 }
 
-// What conflicts with the opcode at a place.
-fn opcode_conflict(
-    sliced: &Sliced,
-    image: &Image,
-    rule: Rule,
-    stream: &Stream,
-    reached: &Reached,
-    place: u64,
-) -> Option<Conflict>
-    requires { image.now ≡ bytes_of sliced.now.held.bytes }
-    ensures { IfSome result (ShowsConflict rule (bytes_of sliced.now.held.bytes) place) }
+// The byte of an opcode of the rebases, and the greatest one.
+pub(crate) fn rebase_opcode(sliced: &Sliced) -> Option<Explanation>
+    ensures { ExplainsIn Rule.RebaseOpcode sliced.now result }
 {
-    let table = stream.table.part;
-    match rule {
-        Rule::RebaseOpcode => {
-            let byte = sliced.held.bytes.u8_at(place)?;
-            Some(Conflict::alone(table, u64::from(byte), LAST_REBASE))
-        }
-        Rule::BindOpcode => {
-            let byte = sliced.held.bytes.u8_at(place)?;
-            Some(Conflict::alone(table, u64::from(byte), LAST_BIND))
-        }
-        Rule::RebaseTotal | Rule::BindTotal => {
-            let budget = clamped(Limits::of(image).budget);
-            Some(Conflict::alone(table, written_with(reached)?, budget))
-        }
-        Rule::BindLibrary => {
-            let libraries = Limits::of(image).libraries;
-            Some(Conflict::alone(table, ordinal(reached.step?)?, libraries))
-        }
-        Rule::RebaseSlot | Rule::BindSlot => slots(sliced, image, table, reached),
-        Rule::BindSymbol => Some(Conflict::alone(table, reached.step?.writes(), 0)),
-        Rule::BindNames => Some(Conflict::alone(table, named_with(reached)?, stream.bytes.len())),
-        _ => None,
-    }
+    let here = opcode_here(sliced)?;
+    let (_, byte) = sliced.byte()?;
+    Some(
+        here.at
+            .shows(Conflict::alone(here.stream.table.part, byte, LAST_REBASE)),
+    )
+}
+
+// The byte of an opcode of the binds, and the greatest one.
+pub(crate) fn bind_opcode(sliced: &Sliced) -> Option<Explanation>
+    ensures { ExplainsIn Rule.BindOpcode sliced.now result }
+{
+    let here = opcode_here(sliced)?;
+    let (_, byte) = sliced.byte()?;
+    Some(
+        here.at
+            .shows(Conflict::alone(here.stream.table.part, byte, LAST_BIND)),
+    )
+}
+
+// Where the last slot of the rebases ends, and how many bytes can be written.
+pub(crate) fn rebase_slot(sliced: &Sliced) -> Option<Explanation>
+    ensures { ExplainsIn Rule.RebaseSlot sliced.now result }
+{
+    let here = opcode_here(sliced)?;
+    Some(here.at.shows(slots(sliced, &here)?))
+}
+
+// The same of the binds.
+pub(crate) fn bind_slot(sliced: &Sliced) -> Option<Explanation>
+    ensures { ExplainsIn Rule.BindSlot sliced.now result }
+{
+    let here = opcode_here(sliced)?;
+    Some(here.at.shows(slots(sliced, &here)?))
+}
+
+// How many rebases there are up to and including the opcode, and pointers that can be written.
+pub(crate) fn rebase_total(sliced: &Sliced) -> Option<Explanation>
+    ensures { ExplainsIn Rule.RebaseTotal sliced.now result }
+{
+    let here = opcode_here(sliced)?;
+    let budget = clamped(Limits::of(&sliced.held.open()?).budget);
+    let count = written_with(&here.reached)?;
+    Some(
+        here.at
+            .shows(Conflict::alone(here.stream.table.part, count, budget)),
+    )
+}
+
+// The same of the binds of a stream.
+pub(crate) fn bind_total(sliced: &Sliced) -> Option<Explanation>
+    ensures { ExplainsIn Rule.BindTotal sliced.now result }
+{
+    let here = opcode_here(sliced)?;
+    let budget = clamped(Limits::of(&sliced.held.open()?).budget);
+    let count = written_with(&here.reached)?;
+    Some(
+        here.at
+            .shows(Conflict::alone(here.stream.table.part, count, budget)),
+    )
+}
+
+// The ordinal that an opcode sets, and how many libraries there are.
+pub(crate) fn bind_library(sliced: &Sliced) -> Option<Explanation>
+    ensures { ExplainsIn Rule.BindLibrary sliced.now result }
+{
+    let here = opcode_here(sliced)?;
+    let libraries = Limits::of(&sliced.held.open()?).libraries;
+    let ordinal = ordinal(here.reached.step?)?;
+    Some(here.at.shows(Conflict::alone(here.stream.table.part, ordinal, libraries)))
+}
+
+// How many binds have no name.
+pub(crate) fn bind_symbol(sliced: &Sliced) -> Option<Explanation>
+    ensures { ExplainsIn Rule.BindSymbol sliced.now result }
+{
+    let here = opcode_here(sliced)?;
+    let count = here.reached.step?.writes();
+    Some(
+        here.at
+            .shows(Conflict::alone(here.stream.table.part, count, 0)),
+    )
+}
+
+// How many bytes of names were looked up, and how many the stream has.
+pub(crate) fn bind_names(sliced: &Sliced) -> Option<Explanation>
+    ensures { ExplainsIn Rule.BindNames sliced.now result }
+{
+    let here = opcode_here(sliced)?;
+    let names = named_with(&here.reached)?;
+    let len = here.stream.table.span.len;
+    Some(
+        here.at
+            .shows(Conflict::alone(here.stream.table.part, names, len)),
+    )
 }
 
 // How many pointers were written up to and including an opcode.
@@ -203,21 +284,24 @@ fn ordinal(step: Step) -> Option<u64> {
 }
 
 // The segment that is set, where the last slot ends in it, and how many of its bytes can be written.
-fn slots(sliced: &Sliced, image: &Image, table: Part, reached: &Reached) -> Option<Conflict> {
-    let end = slots_end(reached.cursor, reached.step?);
-    let Some(number) = reached.cursor.segment else {
+fn slots(sliced: &Sliced, here: &OpcodeHere) -> Option<Conflict>
+    ensures { IfSome result (λ c. (c.limit ≡ 0) ⊎ IsFileSize (bytes_of sliced.now.held.bytes) c.limit) }
+{
+    let (table, cursor) = (here.stream.table.part, here.reached.cursor);
+    let end = slots_end(cursor, here.reached.step?);
+    let image = sliced.held.open()?;
+    let Some(number) = cursor.segment else {
         return Some(Conflict::alone(table, end, 0));
     };
     let Some(segment) = image.segments().nth(usize::from(number)) else {
         return Some(Conflict::alone(table, end, 0));
     };
-    let room = if is_writable(&segment) {
-        segment.filesize()
-    } else {
-        0
-    };
-    let part = segment_at(sliced, segment.place());
-    Some(Conflict::of(table, part, end, room))
+    let found = find_segment(sliced, SegmentWith::Command(segment.place()))?;
+    let part = sliced.segment(&found);
+    if !is_writable(&segment) {
+        return Some(Conflict::of(table, part, end, 0));
+    }
+    Some(Conflict::of(table, part, end, found.row.filesize))
 }
 
 // Where the last slot of an opcode ends, as an offset in the segment.

@@ -3,76 +3,43 @@
 ghost use Rattle.std.specs.Prelude.{◌≡◌, ◌<◌, length, map, slice_get, IfSome, Some};
 ghost use Rattle.macho_fields.specs.Bytes.{bytes_of};
 ghost use Rattle.macho_fields.specs.Image.{commands_of};
-ghost use Rattle.macho_fields.specs.Segment.{section_count};
 ghost use Rattle.macho_fields.specs.declared.rule.Rule.{Rule};
 ghost use Rattle.macho_image.specs.Symbol.{symbols_of, symbol_at};
-ghost use Rattle.macho_explain.specs.Compared.{IsFound, IsSpot, ShowsConflict};
-ghost use Rattle.macho_explain.specs.Explain.{no_index};
+ghost use Rattle.macho_explain.specs.Explained.{ExplainsIn, IsSpot};
 
 use crate::conflict::Conflict;
-use crate::part::{INDIRECT, NAME, NO_INDEX, NO_PART, Part, SYMBOL};
+use crate::explanation::Explanation;
+use crate::part::{Part, PartKind};
 use crate::sliced::Sliced;
 use crate::spot::Spot;
 use crate::table::symtab_table;
-use macho_fields::Rule;
 use macho_fields::header::loader::INDIRECT_ENTRY_SIZE;
 use macho_fields::header::nlist::NLIST_64_SIZE;
 use macho_image::{Image, Symbol};
 use macho_symbols::nlist::library_ordinal;
 use macho_tables::limits::library_count;
 
-// A symbol, and its index among those of the image.
-#[derive(Clone, Copy)]
-struct Indexed {
-    symbol: Symbol,
-    index: u32,
-}
-
-// Explains a rule of the symbol, or of the indirect entry, that begins at the place.
-pub(crate) fn explain_symbol(sliced: &Sliced, rule: Rule, place: u64) -> Option<(Spot, Conflict)>
-    ensures { IfSome result (IsFound rule (bytes_of sliced.now.held.bytes) place) }
+// The symbol at the place, and the image.
+fn symbol_here<'a>(sliced: &Sliced<'a>) -> Option<(Spot, Image<'a>, Symbol)>
+    ensures spot { IfSome result (λ found. IsSpot sliced.now found.0) }
+    ensures image { IfSome result (λ found. found.1 ≡ bytes_of sliced.now.held.bytes) }
+    ensures symbol { IfSome result (λ found. found.2 ≡ symbol_at (bytes_of sliced.now.held.bytes) sliced.now.place) }
 {
     let image = sliced.held.open()?;
-    if rule == Rule::IndirectIndex {
-        return indirect_index(sliced, &image, place);
-    }
-    let found = symbol_with(&image, place)?;
-    let conflict = symbol_conflict(sliced, &image, rule, place, found.symbol)?;
-    Some((symbol_spot(sliced, found), conflict))
+    let (symbol, index) = symbol_with(&image, sliced.place)?;
+    let part = sliced.structure(PartKind::Symbol, sliced.place, NLIST_64_SIZE, Some(index));
+    let at = Spot {
+        symbol: Some(index),
+        ..sliced.at(part)
+    };
+    Some((at, image, symbol))
 }
 
-// What conflicts with the symbol at a place.
-fn symbol_conflict(
-    sliced: &Sliced,
-    image: &Image,
-    rule: Rule,
-    place: u64,
-    symbol: Symbol,
-) -> Option<Conflict>
-    requires { symbol ≡ symbol_at image.now place }
-    ensures { IfSome result (ShowsConflict rule image.now place) }
-{
-    match rule {
-        Rule::SymbolName => Some(symbol_name(sliced, place, u64::from(symbol.strx))),
-        Rule::SymbolIndirect => Some(symbol_name(sliced, place, symbol.value)),
-        Rule::SymbolSection => {
-            let section = u64::from(symbol.sect);
-            Some(Conflict::numbers(section, image.section_count()))
-        }
-        Rule::SymbolLibrary => {
-            let ordinal = u64::from(library_ordinal(symbol));
-            Some(Conflict::numbers(ordinal, library_count(image)))
-        }
-        Rule::SymbolValue => Some(Conflict::numbers(symbol.value, 0)),
-        _ => None,
-    }
-}
-
-// The symbol at a place.
-fn symbol_with(image: &Image, place: u64) -> Option<Indexed>
-    ensures place { IfSome result (λ found. found.symbol.place ≡ place) }
+// The symbol at a place, and its index among those of the image.
+fn symbol_with(image: &Image, place: u64) -> Option<(Symbol, u32)>
+    ensures place { IfSome result (λ found. found.0.place ≡ place) }
     ensures listed { IfSome result (λ found. slice_get (map (symbol_at image.now)
-        (symbols_of image.now (commands_of image.now))) found.index ≡ Some found.symbol) }
+        (symbols_of image.now (commands_of image.now))) found.1 ≡ Some found.0) }
 {
     let offset = place.checked_sub(image.symtab()?.symoff)?;
     let index = u32::try_from(offset / NLIST_64_SIZE).ok()?;
@@ -80,51 +47,92 @@ fn symbol_with(image: &Image, place: u64) -> Option<Indexed>
     if symbol.place != place {
         return None;
     }
-    Some(Indexed { symbol, index })
+    Some((symbol, index))
 }
 
-// The structure of a symbol, and its index.
-fn symbol_spot(sliced: &Sliced, found: Indexed) -> Spot
-    requires { slice_get (map (symbol_at (bytes_of sliced.now.held.bytes))
-        (symbols_of (bytes_of sliced.now.held.bytes) (commands_of (bytes_of sliced.now.held.bytes))))
-        found.index ≡ Some found.symbol }
-    ensures { IsSpot (bytes_of sliced.now.held.bytes) found.symbol.place result }
+// Where the name of a symbol begins in the strings, and where these end.
+pub(crate) fn symbol_name(sliced: &Sliced) -> Option<Explanation>
+    ensures { ExplainsIn Rule.SymbolName sliced.now result }
 {
-    let at = sliced.structure(SYMBOL, found.symbol.place, NLIST_64_SIZE, found.index);
-    Spot {
-        symbol: found.index,
-        ..Spot::of(at)
-    }
+    let (at, _, symbol) = symbol_here(sliced)?;
+    Some(at.shows(name_from(sliced, u64::from(symbol.strx))))
 }
 
-// Where a name of the symbol at a place begins in the strings, and where these end.
-fn symbol_name(sliced: &Sliced, symbol: u64, offset: u64) -> Conflict
+// The same of the name that an indirect symbol stands in for.
+pub(crate) fn symbol_indirect(sliced: &Sliced) -> Option<Explanation>
+    ensures { ExplainsIn Rule.SymbolIndirect sliced.now result }
+{
+    let (at, _, symbol) = symbol_here(sliced)?;
+    Some(at.shows(name_from(sliced, symbol.value)))
+}
+
+// A name of the symbol at the place, from an offset of the strings on.
+fn name_from(sliced: &Sliced, offset: u64) -> Conflict
     ensures { result.value ≡ offset }
 {
     let (strings, size) = symtab_table(sliced, 1);
+    let start = strings.map_or(0, |strings| strings.start);
     let name = Part {
-        start: strings.start.saturating_add(offset),
+        start: start.saturating_add(offset),
         size: size.saturating_sub(offset),
-        described: sliced.file_place(symbol),
-        kind: NAME,
-        index: NO_INDEX,
+        described: sliced.file_place(sliced.place),
+        kind: PartKind::Name,
+        index: None,
     };
-    Conflict::of(name, strings, offset, size)
+    Conflict {
+        second: strings,
+        ..Conflict::alone(name, offset, size)
+    }
 }
 
-// The indirect entry at a place, and how many symbols there are.
-fn indirect_index(sliced: &Sliced, image: &Image, place: u64) -> Option<(Spot, Conflict)>
-    ensures { IfSome result (IsFound Rule.IndirectIndex (bytes_of sliced.now.held.bytes) place) }
+// The number of a section, and how many there are.
+pub(crate) fn symbol_section(sliced: &Sliced) -> Option<Explanation>
+    ensures { ExplainsIn Rule.SymbolSection sliced.now result }
 {
-    let dysymtab = image.dysymtab()?;
-    let offset = place.checked_sub(dysymtab.indirectsymoff)?;
+    let (at, image, symbol) = symbol_here(sliced)?;
+    let section = u64::from(symbol.sect);
+    Some(at.shows(Conflict::numbers(section, image.section_count())))
+}
+
+// The ordinal of a library, and how many there are.
+pub(crate) fn symbol_library(sliced: &Sliced) -> Option<Explanation>
+    ensures { ExplainsIn Rule.SymbolLibrary sliced.now result }
+{
+    let (at, image, symbol) = symbol_here(sliced)?;
+    let ordinal = u64::from(library_ordinal(symbol));
+    Some(at.shows(Conflict::numbers(ordinal, library_count(&image))))
+}
+
+// The address of a symbol, which no segment has.
+pub(crate) fn symbol_value(sliced: &Sliced) -> Option<Explanation>
+    ensures { ExplainsIn Rule.SymbolValue sliced.now result }
+{
+    let (at, _, symbol) = symbol_here(sliced)?;
+    Some(at.shows(Conflict::numbers(symbol.value, 0)))
+}
+
+// The indirect entry at the place, and how many symbols there are.
+pub(crate) fn indirect_index(sliced: &Sliced) -> Option<Explanation>
+    ensures { ExplainsIn Rule.IndirectIndex sliced.now result }
+{
+    let dysymtab = sliced.held.open()?.dysymtab()?;
+    let offset = sliced.place.checked_sub(dysymtab.indirectsymoff)?;
     let index = offset / INDIRECT_ENTRY_SIZE;
     if offset % INDIRECT_ENTRY_SIZE != 0 || index >= dysymtab.nindirectsyms {
         return None;
     }
     let (symbols, count) = symtab_table(sliced, 0);
     let index = u32::try_from(index).ok()?;
-    let at = sliced.structure(INDIRECT, place, INDIRECT_ENTRY_SIZE, index);
-    let entry = u64::from(sliced.word(place));
-    Some((Spot::of(at), Conflict::of(NO_PART, symbols, entry, count)))
+    let part = sliced.structure(
+        PartKind::Indirect,
+        sliced.place,
+        INDIRECT_ENTRY_SIZE,
+        Some(index),
+    );
+    Some(
+        sliced.at(part).shows(Conflict {
+            second: symbols,
+            ..Conflict::numbers(u64::from(sliced.word(sliced.place)), count)
+        }),
+    )
 }

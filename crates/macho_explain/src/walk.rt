@@ -1,10 +1,10 @@
 //! Where a load command is, among those of any bytes.
 
-ghost use Rattle.std.specs.Prelude.{◌≡◌, ◌↔◌, length, IfSome, IsTrue};
+ghost use Rattle.std.specs.Prelude.{◌≡◌, ◌↔◌, ◌⊎◌, length, IfSome, IsTrue, MatchOption};
 ghost use Rattle.macho_fields.specs.Bytes.{bytes_of};
-ghost use Rattle.macho_explain.specs.Explain.{all_loads, IsWalked, Meets};
+ghost use Rattle.macho_rows.specs.Loads.{IsLoad};
+ghost use Rattle.macho_explain.specs.Explain.{all_loads, IsUncounted, IsWalked, Meets, NoneMeets};
 
-use crate::part::NO_INDEX;
 use macho_fields::Bytes;
 use macho_fields::header::loader::MACH_HEADER_64_SIZE;
 use macho_rows::cursor::START;
@@ -15,6 +15,8 @@ use macho_tables::kinds::share_kind;
 // Which command is sought.
 #[derive(Clone, Copy)]
 pub(crate) enum Sought {
+    // The one that begins at a place.
+    From(u64),
     // The one that has the byte at a place.
     At(u64),
     // The first one with a `cmd`.
@@ -33,33 +35,33 @@ pub(crate) struct Walked {
 
 // The command that is sought, if there is one.
 pub(crate) fn walk_to(image: Bytes, sought: Sought) -> Option<Walked>
-    ensures { IfSome result (IsWalked (bytes_of image.entry) sought) }
+    ensures { MatchOption result (NoneMeets (bytes_of image.entry) sought ⊎ IsUncounted (bytes_of image.entry))
+        (IsWalked (bytes_of image.entry) sought) }
 {
     let mut cursor = START;
     let mut index: u32 = 0;
     let mut sections: u64 = 0;
     while let Some(load) = next_wanted(image, &mut cursor, Wanted::All) {
-        if index == NO_INDEX {
-            return None;
-        }
-        if is_sought(load, sought) {
+        if is_sought(image, load, sought) {
             return Some(Walked {
                 load,
                 index,
                 sections,
             });
         }
-        index += 1;
+        index = index.checked_add(1)?;
         sections = sections.checked_add(nsects_at(image, load.place))?;
     }
     None
 }
 
 // Whether the command is the one that is sought.
-fn is_sought(load: Load, sought: Sought) -> bool
-    ensures { IsTrue result ↔ Meets sought load }
+fn is_sought(image: Bytes, load: Load, sought: Sought) -> bool
+    requires { IsLoad (bytes_of image) load }
+    ensures { IsTrue result ↔ Meets (bytes_of image.entry) sought load.place }
 {
     match sought {
+        Sought::From(place) => load.place == place,
         Sought::At(place) => load.place <= place && place - load.place < load.size,
         Sought::First(cmd) => load.cmd == cmd,
         Sought::OfKind(cmd) => share_kind(load.cmd, cmd),

@@ -1,4 +1,4 @@
-use Rattle.std.proofs.Common.{◌≡◌, ◌+◌, ◌∙◌, ℕ, ap, arith, inl, refl, subst}
+use Rattle.std.proofs.Common.{◌≡◌, ◌+◌, ◌∙◌, ℕ, ap, arith, refl, subst}
 use Rattle.macho_fields.specs.Bytes.{bytes_of}
 use Rattle.macho_explain.specs.Seals.{IsHashShown, place_of}
 use Rattle.macho_explain.specs.declared.seal.Hashed.{Hashed}
@@ -12,14 +12,12 @@ returns c =
     let span = found.table.span in
     let signature = bytes_of found.bytes in
     let conflict = c.in_ok-conflict.conflict in
-    let at : place_of span.start c.match-checked_sub.hashed ≡ c.args.place = elim c.match-checked_sub.branch [
+    let at : place_of span.start c.match-checked_sub.hashed ≡ c.args.sliced.now.place = elim c.match-checked_sub.branch [
       | in-Some+in_ok-hashed-in-Some w ↦
           let (less, is) = w.in-Some.ensures in
-          let past : span.start + w.in-Some.offset ≡ c.args.place = omega (arith, less, is) in
+          let past : span.start + w.in-Some.offset ≡ c.args.sliced.now.place = omega (arith, less, is) in
           ap (λ (h : Hashed). place_of span.start h) w.hashed-is ∙ (w.in_ok-hashed-in-Some.ensures.place span.start ∙ past)
       | in-None w ↦ ap (λ (h : Hashed). place_of span.start h) w.hashed-is
     ] in
-    let shown = subst (λ (p : ℕ). IsHashShown image span.start signature p conflict.value conflict.limit) at c.in_ok-conflict.ensures in (
-      rw c.of.ensures (record { command = inl refl; section = inl refl; symbol = inl refl }),
-      (span, signature, c.in_ok-signature.ensures, shown),
-    )
+    let shown = subst (λ (p : ℕ). IsHashShown image span.start signature p conflict.value conflict.limit) at c.in_ok-conflict.ensures in
+    rw c.shows.ensures (rw c.at.ensures (record { slice = refl; command = tt; section = tt; symbol = tt }), (span, signature, c.in_ok-signature.ensures, shown))

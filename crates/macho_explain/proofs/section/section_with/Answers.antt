@@ -1,7 +1,9 @@
-use Rattle.std.proofs.Common.{◌≡◌, ◌+◌, ◌/◌, ◌<◌, ap, arith, subst, ◌∙◌}
+use Rattle.std.proofs.Common.{◌≡◌, ◌+◌, ◌/◌, ◌<◌, ap, arith, subst}
 use Rattle.macho_fields.specs.Bytes.{bytes_of}
 use Rattle.macho_rows.specs.Sections.{nsects_at}
 use Rattle.macho_rows.specs.declared.sections.KesvuotSection.{KesvuotSection}
+use Rattle.macho_explain.specs.Explain.{IsSectionAt}
+use Rattle.macho_explain.proofs.Walked.{when_some}
 use Rattle.macho_explain.proofs.section.section_with.Goals as goal
 
 pub returns : goal.returns
@@ -12,7 +14,6 @@ returns c =
     let nth = offset / 80 in
     let from : offset + (walked.load.place + 72) ≡ c.args.place = grind arith in
     let row = c.row_of.ensures in
-    let indexed : c.in_ok-index.index ≡ walked.sections + nth = grind arith in
     let less : nth < nsects_at image walked.load.place = subst (λ n. nth < n) c.nsects_at.ensures.count c.if-number-nsects_at.false in
     record {
       row = record {
@@ -22,5 +23,6 @@ returns c =
         relocs = ap (λ (r : KesvuotSection). r.reloff) row;
         reloc_count = ap (λ (r : KesvuotSection). r.nreloc) row;
       };
-      at = (walked.index, walked.load.place, nth, c.requires.listed, less, indexed ∙ ap (λ n. n + nth) c.requires.sections, omega (arith, from), omega (arith, from));
+      at = when_some (λ k. IsSectionAt image k c.args.place) (walked.sections + nth) c.section_index.result c.section_index.ensures
+          (walked.index, walked.load.place, nth, c.requires.listed, less, ap (λ n. n + nth) c.requires.sections, omega (arith, from), omega (arith, from));
     }

@@ -1,0 +1,277 @@
+//! The rules of load commands. (`mach-o/loader.h`)
+
+ghost use Rattle.std.specs.Prelude.{◌≡◌, ◌<◌, IfSome, MatchOption};
+ghost use Rattle.macho_fields.specs.Bytes.{bytes_of};
+ghost use Rattle.macho_fields.specs.declared.rule.Rule.{Rule};
+ghost use Rattle.macho_explain.specs.Compared.{HasCommand};
+ghost use Rattle.macho_explain.specs.Explained.{ExplainsIn, IsSpot};
+ghost use Rattle.macho_explain.specs.Explain.{IsWalked, MeetsLimit};
+ghost use Rattle.macho_explain.specs.Parts.{IsBefore};
+ghost use Rattle.macho_explain.specs.declared.walk.Sought.TheVariants as sought;
+
+use crate::conflict::Conflict;
+use crate::explanation::Explanation;
+use crate::part::{PartKind, index_of};
+use crate::segment::{SegmentWith, find_segment};
+use crate::sliced::Sliced;
+use crate::spot::Spot;
+use crate::table::{symtab_table, table_by, table_with, tables_of};
+use crate::walk::{Sought, Walked, walk_end, walk_to};
+use macho_commands::content_of;
+use macho_fields::header::loader::entry_point_command::ENTRYOFF;
+use macho_fields::header::loader::load_command::CMDSIZE;
+use macho_fields::header::loader::{LC_STR_OFFSET, LC_THREAD, LC_UNIXTHREAD, LOAD_COMMAND_SIZE};
+use macho_fields::{Span, structure_of};
+use macho_rows::load::Load;
+
+// The command that begins at the place.
+pub(crate) fn command_here(sliced: &Sliced) -> Option<(Spot, Walked)>
+    ensures { MatchOption result (¬ HasCommand (bytes_of sliced.now.held.bytes) sliced.now.place)
+        (λ found. IsSpot sliced.now found.0
+        × IsWalked (bytes_of sliced.now.held.bytes) (sought.From sliced.now.place) found.1) }
+{
+    let walked = walk_to(sliced.held.bytes, Sought::From(sliced.place))?;
+    let at = sliced.at(sliced.command(&walked));
+    Some((at.in_command(Some(walked.index)), walked))
+}
+
+// Where the walk over the commands finds none, and why: it ends past the commands, or its size is none of a command.
+pub(crate) fn command_walk(sliced: &Sliced) -> Option<Explanation>
+    ensures { ExplainsIn Rule.CommandWalk sliced.now result }
+{
+    let end = walk_end(sliced.held.bytes)?;
+    let (place, index) = (end.place, Some(end.count));
+    if place != sliced.place {
+        return None;
+    }
+    let limit = sliced.commands_end();
+    let there = sliced.held.bytes.len().saturating_sub(place);
+    let part = sliced.structure(
+        PartKind::Command,
+        place,
+        there.min(LOAD_COMMAND_SIZE),
+        index,
+    );
+    let at = sliced.at(part).in_command(index);
+    let head_end = place.saturating_add(LOAD_COMMAND_SIZE);
+    if head_end > limit {
+        let head = sliced.structure(PartKind::Command, place, LOAD_COMMAND_SIZE, index);
+        return Some(at.shows(Conflict::of(head, sliced.headers(), head_end, limit)));
+    }
+    let size = u64::from(sliced.word(place.saturating_add(CMDSIZE)));
+    let command = sliced.structure(PartKind::Command, place, size, index);
+    if size < LOAD_COMMAND_SIZE || size % LOAD_COMMAND_SIZE != 0 {
+        return Some(at.shows(Conflict::alone(command, size, LOAD_COMMAND_SIZE)));
+    }
+    let end = place.saturating_add(size);
+    Some(at.shows(Conflict::of(command, sliced.headers(), end, limit)))
+}
+
+// The size of a command, and the least one.
+pub(crate) fn command_short(sliced: &Sliced) -> Option<Explanation>
+    ensures { ExplainsIn Rule.CommandShort sliced.now result }
+{
+    let (at, walked) = command_here(sliced)?;
+    let (size, least) = (walked.load.size, least_size(sliced, walked.load));
+    Some(at.shows(Conflict::alone(sliced.command(&walked), size, least)))
+}
+
+// The least size of a command, by its structure and its records.
+fn least_size(sliced: &Sliced, load: Load) -> u64 {
+    let Some(structure) = structure_of(load.cmd) else {
+        return 0;
+    };
+    let size = structure.size();
+    match structure.records() {
+        Some(records) if records.count + 4 <= load.size => {
+            let count = sliced.word(load.place.saturating_add(records.count));
+            size.saturating_add(u64::from(count).saturating_mul(records.size))
+        }
+        _ => size,
+    }
+}
+
+// The first command with this `cmd`.
+pub(crate) fn command_repeated(sliced: &Sliced) -> Option<Explanation>
+    ensures { ExplainsIn Rule.CommandRepeated sliced.now result }
+{
+    let (at, walked) = command_here(sliced)?;
+    Some(at.shows(repeated(sliced, &walked, Sought::First(walked.load.cmd))?))
+}
+
+// The first command that names linked data of this kind.
+pub(crate) fn table_repeated(sliced: &Sliced) -> Option<Explanation>
+    ensures { ExplainsIn Rule.TableRepeated sliced.now result }
+{
+    let (at, walked) = command_here(sliced)?;
+    Some(at.shows(repeated(sliced, &walked, Sought::OfKind(walked.load.cmd))?))
+}
+
+// The command that is sought, which comes before this one.
+fn repeated(sliced: &Sliced, walked: &Walked, sought: Sought) -> Option<Conflict>
+    ensures value { IfSome result (λ c. c.value ≡ walked.now.load.cmd) }
+    ensures order { IfSome result IsBefore }
+    ensures limit { IfSome result (λ c. MeetsLimit sought c.limit) }
+{
+    let earlier = walk_to(sliced.held.bytes, sought)?;
+    if earlier.index >= walked.index {
+        return None;
+    }
+    Some(Conflict::of(
+        sliced.command(walked),
+        sliced.command(&earlier),
+        u64::from(walked.load.cmd),
+        u64::from(earlier.load.cmd),
+    ))
+}
+
+// A thread that comes before this one, or how many bytes this one has.
+pub(crate) fn thread(sliced: &Sliced) -> Option<Explanation>
+    ensures { ExplainsIn Rule.Thread sliced.now result }
+{
+    let (at, walked) = command_here(sliced)?;
+    let own = sliced.command(&walked);
+    Some(at.shows(match first_thread(sliced) {
+        Some(first) if first.index < walked.index => {
+            let (cmd, earlier) = (u64::from(walked.load.cmd), u64::from(first.load.cmd));
+            Conflict::of(own, sliced.command(&first), cmd, earlier)
+        }
+        _ => Conflict::alone(own, walked.load.size, 0),
+    }))
+}
+
+// The first thread of the image.
+fn first_thread(sliced: &Sliced) -> Option<Walked> {
+    let bytes = sliced.held.bytes;
+    let one = walk_to(bytes, Sought::First(LC_THREAD));
+    let other = walk_to(bytes, Sought::First(LC_UNIXTHREAD));
+    match (one, other) {
+        (Some(one), Some(other)) if other.index < one.index => Some(other),
+        (Some(one), _) => Some(one),
+        (None, other) => other,
+    }
+}
+
+// The size of a command, and that of its structure, or 0 where it has no place in an image.
+pub(crate) fn command_content(sliced: &Sliced) -> Option<Explanation>
+    ensures { ExplainsIn Rule.CommandContent sliced.now result }
+{
+    let (at, walked) = command_here(sliced)?;
+    let size = content_of(walked.load.cmd).map_or(0, |content| content.size);
+    let own = sliced.command(&walked);
+    Some(at.shows(Conflict::alone(own, walked.load.size, size)))
+}
+
+// The command that has variants of functions.
+pub(crate) fn function_variants(sliced: &Sliced) -> Option<Explanation>
+    ensures { ExplainsIn Rule.FunctionVariants sliced.now result }
+{
+    let (at, walked) = command_here(sliced)?;
+    Some(at.shows(Conflict::numbers(u64::from(walked.load.cmd), 0)))
+}
+
+// The offset of the name of a command, and the least one, or where the name has to end.
+pub(crate) fn name(sliced: &Sliced) -> Option<Explanation>
+    ensures { ExplainsIn Rule.Name sliced.now result }
+{
+    let (at, walked) = command_here(sliced)?;
+    let load = walked.load;
+    let offset = u64::from(sliced.word(load.place + LC_STR_OFFSET));
+    let least = structure_of(load.cmd).map_or(0, |structure| structure.size());
+    if offset < least {
+        return Some(at.shows(Conflict::numbers(offset, least)));
+    }
+    let rest = Span {
+        start: load.place.saturating_add(offset),
+        len: load.size.saturating_sub(offset),
+    };
+    let name = sliced.described(PartKind::Name, rest, load.place, None);
+    Some(at.shows(Conflict::of(name, sliced.command(&walked), offset, load.size)))
+}
+
+// The first table of a command that ends past the image.
+pub(crate) fn table_range(sliced: &Sliced) -> Option<Explanation>
+    ensures { ExplainsIn Rule.TableRange sliced.now result }
+{
+    let (at, walked) = command_here(sliced)?;
+    let len = u128::from(sliced.held.bytes.len());
+    let mut index: u64 = 0;
+    for fields in tables_of(walked.load.cmd) {
+        let table = table_by(sliced, sliced.place, *fields, index);
+        if table.span.len > 0 && table.end > len {
+            return Some(at.shows(Conflict::past(table.part, sliced.whole(), table.end, len)));
+        }
+        index = index.saturating_add(1);
+    }
+    None
+}
+
+// How many groups of symbols `dysymtab_command` has, the offset of the first, and their size there.
+const GROUPS: u64 = 3;
+
+const FIRST_GROUP: u64 = 8;
+
+const GROUP_SIZE: u64 = 8;
+
+// The first group of symbols that ends past the symbols.
+pub(crate) fn symbol_group(sliced: &Sliced) -> Option<Explanation>
+    ensures { ExplainsIn Rule.SymbolGroup sliced.now result }
+{
+    let (at, walked) = command_here(sliced)?;
+    let (symbols, count) = symtab_table(sliced, 0);
+    for index in 0..GROUPS {
+        let place = walked
+            .load
+            .place
+            .saturating_add(FIRST_GROUP + GROUP_SIZE * index);
+        let span = Span {
+            start: u64::from(sliced.word(place)),
+            len: u64::from(sliced.word(place.saturating_add(4))),
+        };
+        if span.len > 0 && span.end() > u128::from(count) {
+            let group = sliced.numbered(PartKind::Group, span, sliced.place, index_of(index));
+            return Some(at.shows(Conflict {
+                second: symbols,
+                ..Conflict::alone(group, span.start + span.len, count)
+            }));
+        }
+    }
+    None
+}
+
+// The segment with the base, and the one with the address of the entry.
+pub(crate) fn entry(sliced: &Sliced) -> Option<Explanation>
+    ensures { ExplainsIn Rule.Entry sliced.now result }
+{
+    let (at, walked) = command_here(sliced)?;
+    let entryoff = sliced.long(walked.load.place + ENTRYOFF);
+    let Some(base) = find_segment(sliced, SegmentWith::Base) else {
+        return Some(at.shows(Conflict::numbers(entryoff, 0)));
+    };
+    let first = sliced.memory(&base);
+    let address = base.row.vmaddr.saturating_add(entryoff);
+    let Some(found) = find_segment(sliced, SegmentWith::Address(address)) else {
+        return Some(at.shows(Conflict::alone(first, address, 0)));
+    };
+    let end = found.row.vmaddr.saturating_add(found.row.filesize);
+    Some(at.shows(Conflict::of(first, sliced.memory(&found), address, end)))
+}
+
+// The encrypted range, and the headers in which it begins, or the segment in which it has to end.
+pub(crate) fn encrypted_range(sliced: &Sliced) -> Option<Explanation>
+    ensures { ExplainsIn Rule.EncryptedRange sliced.now result }
+{
+    let (at, walked) = command_here(sliced)?;
+    let range = table_with(sliced, walked.load, 0)?;
+    let headers_end = sliced.commands_end();
+    let start = range.span.start;
+    if start < headers_end {
+        return Some(at.shows(Conflict::of(range.part, sliced.headers(), start, headers_end)));
+    }
+    let Some(found) = find_segment(sliced, SegmentWith::FileByte(start)) else {
+        return Some(at.shows(Conflict::alone(range.part, start, 0)));
+    };
+    let limit = found.file_part().end();
+    let segment = sliced.segment(&found);
+    Some(at.shows(Conflict::past(range.part, segment, range.end, limit)))
+}
