@@ -57,6 +57,7 @@ pub(crate) fn header_at(sliced: &Sliced, table: &Bounded, place: u64) -> Option<
 }
 
 // The header: there is no table, it is shorter, or a field is not known.
+#[inline(never)]
 pub(crate) fn chain_header(sliced: &Sliced) -> Option<Explanation>
     ensures { ExplainsIn Rule.ChainHeader sliced.now result }
 {
@@ -72,6 +73,7 @@ pub(crate) fn chain_header(sliced: &Sliced) -> Option<Explanation>
 }
 
 // The starts: the table ends before `seg_count` does, or what is at the place is broken.
+#[inline(never)]
 pub(crate) fn chain_starts(sliced: &Sliced) -> Option<Explanation>
     ensures { ExplainsIn Rule.ChainStarts sliced.now result }
 {
@@ -140,6 +142,7 @@ fn starts_size(chains: Bytes, offset: u64) -> u64 {
 }
 
 // The imports: they end past the table, or the name of the one at the place does not end.
+#[inline(never)]
 pub(crate) fn chain_imports(sliced: &Sliced) -> Option<Explanation>
     ensures { ExplainsIn Rule.ChainImports sliced.now result }
 {
@@ -161,6 +164,7 @@ pub(crate) fn chain_imports(sliced: &Sliced) -> Option<Explanation>
 }
 
 // The import at the place, with which the names have more bytes than the table.
+#[inline(never)]
 pub(crate) fn chain_total(sliced: &Sliced) -> Option<Explanation>
     ensures { ExplainsIn Rule.ChainTotal sliced.now result }
 {
@@ -172,6 +176,7 @@ pub(crate) fn chain_total(sliced: &Sliced) -> Option<Explanation>
 }
 
 // The import at the place, which is from no library.
+#[inline(never)]
 pub(crate) fn chain_library(sliced: &Sliced) -> Option<Explanation>
     ensures { ExplainsIn Rule.ChainLibrary sliced.now result }
 {

@@ -36,6 +36,7 @@ pub(crate) fn command_here(sliced: &Sliced) -> Option<(Spot, Walked)>
 }
 
 // Where the walk over the commands finds none, and why: it ends past the commands, or its size is none of a command.
+#[inline(never)]
 pub(crate) fn command_walk(sliced: &Sliced) -> Option<Explanation>
     ensures { ExplainsIn Rule.CommandWalk sliced.now result }
 {
@@ -68,6 +69,7 @@ pub(crate) fn command_walk(sliced: &Sliced) -> Option<Explanation>
 }
 
 // The size of a command, and the least one.
+#[inline(never)]
 pub(crate) fn command_short(sliced: &Sliced) -> Option<Explanation>
     ensures { ExplainsIn Rule.CommandShort sliced.now result }
 {
@@ -92,6 +94,7 @@ fn least_size(sliced: &Sliced, load: Load) -> u64 {
 }
 
 // The first command with this `cmd`.
+#[inline(never)]
 pub(crate) fn command_repeated(sliced: &Sliced) -> Option<Explanation>
     ensures { ExplainsIn Rule.CommandRepeated sliced.now result }
 {
@@ -100,6 +103,7 @@ pub(crate) fn command_repeated(sliced: &Sliced) -> Option<Explanation>
 }
 
 // The first command that names linked data of this kind.
+#[inline(never)]
 pub(crate) fn table_repeated(sliced: &Sliced) -> Option<Explanation>
     ensures { ExplainsIn Rule.TableRepeated sliced.now result }
 {
@@ -126,6 +130,7 @@ fn repeated(sliced: &Sliced, walked: &Walked, sought: Sought) -> Option<Conflict
 }
 
 // A thread that comes before this one, or how many bytes this one has.
+#[inline(never)]
 pub(crate) fn thread(sliced: &Sliced) -> Option<Explanation>
     ensures { ExplainsIn Rule.Thread sliced.now result }
 {
@@ -153,6 +158,7 @@ fn first_thread(sliced: &Sliced) -> Option<Walked> {
 }
 
 // The size of a command, and that of its structure, or 0 where it has no place in an image.
+#[inline(never)]
 pub(crate) fn command_content(sliced: &Sliced) -> Option<Explanation>
     ensures { ExplainsIn Rule.CommandContent sliced.now result }
 {
@@ -163,6 +169,7 @@ pub(crate) fn command_content(sliced: &Sliced) -> Option<Explanation>
 }
 
 // The command that has variants of functions.
+#[inline(never)]
 pub(crate) fn function_variants(sliced: &Sliced) -> Option<Explanation>
     ensures { ExplainsIn Rule.FunctionVariants sliced.now result }
 {
@@ -171,6 +178,7 @@ pub(crate) fn function_variants(sliced: &Sliced) -> Option<Explanation>
 }
 
 // The offset of the name of a command, and the least one, or where the name has to end.
+#[inline(never)]
 pub(crate) fn name(sliced: &Sliced) -> Option<Explanation>
     ensures { ExplainsIn Rule.Name sliced.now result }
 {
@@ -190,6 +198,7 @@ pub(crate) fn name(sliced: &Sliced) -> Option<Explanation>
 }
 
 // The first table of a command that ends past the image.
+#[inline(never)]
 pub(crate) fn table_range(sliced: &Sliced) -> Option<Explanation>
     ensures { ExplainsIn Rule.TableRange sliced.now result }
 {
@@ -214,6 +223,7 @@ const FIRST_GROUP: u64 = 8;
 const GROUP_SIZE: u64 = 8;
 
 // The first group of symbols that ends past the symbols.
+#[inline(never)]
 pub(crate) fn symbol_group(sliced: &Sliced) -> Option<Explanation>
     ensures { ExplainsIn Rule.SymbolGroup sliced.now result }
 {
@@ -240,6 +250,7 @@ pub(crate) fn symbol_group(sliced: &Sliced) -> Option<Explanation>
 }
 
 // The segment with the base, and the one with the address of the entry.
+#[inline(never)]
 pub(crate) fn entry(sliced: &Sliced) -> Option<Explanation>
     ensures { ExplainsIn Rule.Entry sliced.now result }
 {
@@ -258,6 +269,7 @@ pub(crate) fn entry(sliced: &Sliced) -> Option<Explanation>
 }
 
 // The encrypted range, and the headers in which it begins, or the segment in which it has to end.
+#[inline(never)]
 pub(crate) fn encrypted_range(sliced: &Sliced) -> Option<Explanation>
     ensures { ExplainsIn Rule.EncryptedRange sliced.now result }
 {

@@ -23,6 +23,7 @@ use macho_strict::{Element, Elements};
 
 // Which element that the structure at the place describes shares bytes with an earlier one, or ends past the
 // image.
+#[inline(never)]
 pub(crate) fn element_overlap(sliced: &Sliced) -> Option<Explanation>
     ensures { ExplainsIn Rule.ElementOverlap sliced.now result }
 {
@@ -129,6 +130,7 @@ fn described_before(image: &Image, place: u64, index: u64) -> u64 {
 }
 
 // The byte at the place, and the command that has it.
+#[inline(never)]
 pub(crate) fn command_slack(sliced: &Sliced) -> Option<Explanation>
     ensures { ExplainsIn Rule.CommandSlack sliced.now result }
 {
@@ -139,6 +141,7 @@ pub(crate) fn command_slack(sliced: &Sliced) -> Option<Explanation>
 }
 
 // The byte at the place, and the segments before and after it.
+#[inline(never)]
 pub(crate) fn stray_byte(sliced: &Sliced) -> Option<Explanation>
     ensures { ExplainsIn Rule.StrayByte sliced.now result }
 {
@@ -153,6 +156,7 @@ pub(crate) fn stray_byte(sliced: &Sliced) -> Option<Explanation>
 }
 
 // The byte at the place, and the elements before and after it.
+#[inline(never)]
 pub(crate) fn unclaimed_byte(sliced: &Sliced) -> Option<Explanation>
     ensures { ExplainsIn Rule.UnclaimedByte sliced.now result }
 {

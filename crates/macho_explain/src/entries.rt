@@ -31,6 +31,7 @@ const ALIGN: u64 = 16;
 const ALIGN_64: u64 = 24;
 
 // What the file begins with, and with what it would begin as an image.
+#[inline(never)]
 pub(crate) fn magic(file: Bytes, place: u64) -> Option<Explanation>
     ensures { ExplainsFile Rule.Magic (bytes_of file.entry) place result }
 {
@@ -43,6 +44,7 @@ pub(crate) fn magic(file: Bytes, place: u64) -> Option<Explanation>
 }
 
 // The table, or in a file of fewer bytes its header, ends past the file.
+#[inline(never)]
 pub(crate) fn fat_truncated(file: Bytes, place: u64) -> Option<Explanation>
     ensures { ExplainsFile Rule.FatTruncated (bytes_of file.entry) place result }
 {
@@ -57,6 +59,7 @@ pub(crate) fn fat_truncated(file: Bytes, place: u64) -> Option<Explanation>
 }
 
 // No entry of the table is of a 64-bit image.
+#[inline(never)]
 pub(crate) fn fat_empty(file: Bytes, place: u64) -> Option<Explanation>
     ensures { ExplainsFile Rule.FatEmpty (bytes_of file.entry) place result }
 {
@@ -93,6 +96,7 @@ fn entry_here(file: Bytes, place: u64) -> Option<(Spot, u32, Slice)>
 }
 
 // Where the slice of an entry ends, and the file.
+#[inline(never)]
 pub(crate) fn fat_slice_outside(file: Bytes, place: u64) -> Option<Explanation>
     ensures { ExplainsFile Rule.FatSliceOutside (bytes_of file.entry) place result }
 {
@@ -102,6 +106,7 @@ pub(crate) fn fat_slice_outside(file: Bytes, place: u64) -> Option<Explanation>
 }
 
 // Where the slice begins, and where the table ends.
+#[inline(never)]
 pub(crate) fn fat_slice_in_table(file: Bytes, place: u64) -> Option<Explanation>
     ensures { ExplainsFile Rule.FatSliceInTable (bytes_of file.entry) place result }
 {
@@ -112,6 +117,7 @@ pub(crate) fn fat_slice_in_table(file: Bytes, place: u64) -> Option<Explanation>
 }
 
 // Where the slice begins, and its alignment.
+#[inline(never)]
 pub(crate) fn fat_align(file: Bytes, place: u64) -> Option<Explanation>
     ensures { ExplainsFile Rule.FatAlign (bytes_of file.entry) place result }
 {
@@ -122,6 +128,7 @@ pub(crate) fn fat_align(file: Bytes, place: u64) -> Option<Explanation>
 }
 
 // The first earlier slice that shares a byte with the slice of the entry.
+#[inline(never)]
 pub(crate) fn fat_overlap(file: Bytes, place: u64) -> Option<Explanation>
     ensures { ExplainsFile Rule.FatOverlap (bytes_of file.entry) place result }
 {
@@ -138,6 +145,7 @@ pub(crate) fn fat_overlap(file: Bytes, place: u64) -> Option<Explanation>
 }
 
 // The first earlier slice that has the architecture of the slice of the entry.
+#[inline(never)]
 pub(crate) fn fat_duplicate(file: Bytes, place: u64) -> Option<Explanation>
     ensures { ExplainsFile Rule.FatDuplicate (bytes_of file.entry) place result }
 {
@@ -155,6 +163,7 @@ pub(crate) fn fat_duplicate(file: Bytes, place: u64) -> Option<Explanation>
 }
 
 // The slice at the place, which begins with the magic number of no image.
+#[inline(never)]
 pub(crate) fn fat_slice_magic(file: Bytes, place: u64) -> Option<Explanation>
     ensures { ExplainsFile Rule.FatSliceMagic (bytes_of file.entry) place result }
 {
@@ -179,6 +188,7 @@ fn is_foreign(file: Bytes, slice: &Slice) -> bool {
 }
 
 // The byte at the place, and between which slices it is.
+#[inline(never)]
 pub(crate) fn fat_stray_byte(file: Bytes, place: u64) -> Option<Explanation>
     ensures { ExplainsFile Rule.FatStrayByte (bytes_of file.entry) place result }
 {

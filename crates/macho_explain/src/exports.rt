@@ -60,6 +60,7 @@ fn node_here<'a>(sliced: &Sliced<'a>) -> Option<NodeHere<'a>>
 }
 
 // The node that does not end in the trie, or would begin past it.
+#[inline(never)]
 pub(crate) fn export_node(sliced: &Sliced) -> Option<Explanation>
     ensures { ExplainsIn Rule.ExportNode sliced.now result }
 {
@@ -69,6 +70,7 @@ pub(crate) fn export_node(sliced: &Sliced) -> Option<Explanation>
 }
 
 // The node with which all have more bytes than the trie.
+#[inline(never)]
 pub(crate) fn export_total(sliced: &Sliced) -> Option<Explanation>
     ensures { ExplainsIn Rule.ExportTotal sliced.now result }
 {
@@ -79,6 +81,7 @@ pub(crate) fn export_total(sliced: &Sliced) -> Option<Explanation>
 }
 
 // The flags of an export, and all that are known.
+#[inline(never)]
 pub(crate) fn export_terminal(sliced: &Sliced) -> Option<Explanation>
     ensures { ExplainsIn Rule.ExportTerminal sliced.now result }
 {
@@ -91,6 +94,7 @@ pub(crate) fn export_terminal(sliced: &Sliced) -> Option<Explanation>
 }
 
 // The ordinal of the library that has the symbol.
+#[inline(never)]
 pub(crate) fn export_library(sliced: &Sliced) -> Option<Explanation>
     ensures { ExplainsIn Rule.ExportLibrary sliced.now result }
 {
@@ -104,6 +108,7 @@ pub(crate) fn export_library(sliced: &Sliced) -> Option<Explanation>
 }
 
 // The address of an export that no segment has.
+#[inline(never)]
 pub(crate) fn export_address(sliced: &Sliced) -> Option<Explanation>
     ensures { ExplainsIn Rule.ExportAddress sliced.now result }
 {

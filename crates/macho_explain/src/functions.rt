@@ -21,6 +21,7 @@ use macho_tables::data_in_code::{DataInCodeEntry, is_known_kind};
 use macho_tables::numbers::read_uleb;
 
 // The byte at the place: no number begins there, or it is past the last one and not 0.
+#[inline(never)]
 pub(crate) fn function_number(sliced: &Sliced) -> Option<Explanation>
     ensures { ExplainsIn Rule.FunctionNumber sliced.now result }
 {
@@ -30,6 +31,7 @@ pub(crate) fn function_number(sliced: &Sliced) -> Option<Explanation>
 }
 
 // The number at the place: at the address of its function, no segment has a byte of the file.
+#[inline(never)]
 pub(crate) fn function_start(sliced: &Sliced) -> Option<Explanation>
     ensures { ExplainsIn Rule.FunctionStart sliced.now result }
 {
@@ -81,6 +83,7 @@ fn start_at(table: Bytes, base: u64, offset: u64) -> Option<(u64, u64)>
 }
 
 // The table that is no whole entries, or the entry at the place.
+#[inline(never)]
 pub(crate) fn data_in_code(sliced: &Sliced) -> Option<Explanation>
     ensures { ExplainsIn Rule.DataInCode sliced.now result }
 {

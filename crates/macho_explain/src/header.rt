@@ -40,6 +40,7 @@ fn whole_header(sliced: &Sliced) -> Part {
 }
 
 // The header ends past the slice.
+#[inline(never)]
 pub(crate) fn header_truncated(sliced: &Sliced) -> Option<Explanation>
     ensures { ExplainsIn Rule.HeaderTruncated sliced.now result }
 {
@@ -50,6 +51,7 @@ pub(crate) fn header_truncated(sliced: &Sliced) -> Option<Explanation>
 }
 
 // The header has another architecture than the entry.
+#[inline(never)]
 pub(crate) fn arch_mismatch(sliced: &Sliced) -> Option<Explanation>
     ensures { ExplainsIn Rule.ArchMismatch sliced.now result }
 {
@@ -70,6 +72,7 @@ pub(crate) fn arch_mismatch(sliced: &Sliced) -> Option<Explanation>
 }
 
 // The filetype, which is not read.
+#[inline(never)]
 pub(crate) fn file_type(sliced: &Sliced) -> Option<Explanation>
     ensures { ExplainsIn Rule.FileType sliced.now result }
 {
@@ -79,6 +82,7 @@ pub(crate) fn file_type(sliced: &Sliced) -> Option<Explanation>
 }
 
 // The commands end past the slice.
+#[inline(never)]
 pub(crate) fn commands_outside(sliced: &Sliced) -> Option<Explanation>
     ensures { ExplainsIn Rule.CommandsOutside sliced.now result }
 {
@@ -88,6 +92,7 @@ pub(crate) fn commands_outside(sliced: &Sliced) -> Option<Explanation>
 }
 
 // How many `LC_ID_DYLIB` there are, and how many an image of this filetype has.
+#[inline(never)]
 pub(crate) fn dylib_id(sliced: &Sliced) -> Option<Explanation>
     ensures { ExplainsIn Rule.DylibId sliced.now result }
 {
@@ -105,6 +110,7 @@ pub(crate) fn dylib_id(sliced: &Sliced) -> Option<Explanation>
 }
 
 // Where the last command ends, and where the header says that it does.
+#[inline(never)]
 pub(crate) fn commands_end(sliced: &Sliced) -> Option<Explanation>
     ensures { ExplainsIn Rule.CommandsEnd sliced.now result }
 {
@@ -117,6 +123,7 @@ pub(crate) fn commands_end(sliced: &Sliced) -> Option<Explanation>
 }
 
 // The first mapped segment with `fileoff` 0, which is too short for the headers.
+#[inline(never)]
 pub(crate) fn header_segment(sliced: &Sliced) -> Option<Explanation>
     ensures { ExplainsIn Rule.HeaderSegment sliced.now result }
 {
@@ -132,6 +139,7 @@ pub(crate) fn header_segment(sliced: &Sliced) -> Option<Explanation>
 }
 
 // The segment that has the base, and its protection; or the address for which a loader takes the base.
+#[inline(never)]
 pub(crate) fn header_home(sliced: &Sliced) -> Option<Explanation>
     ensures { ExplainsIn Rule.HeaderHome sliced.now result }
 {

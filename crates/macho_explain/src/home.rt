@@ -20,6 +20,7 @@ use macho_tables::homes::{has_linkedit, is_home};
 use macho_tables::segment::is_linkedit;
 
 // The first table of a command that has no home, and why.
+#[inline(never)]
 pub(crate) fn table_home(sliced: &Sliced) -> Option<Explanation>
     ensures { ExplainsIn Rule.TableHome sliced.now result }
 {

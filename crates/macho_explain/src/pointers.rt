@@ -44,6 +44,7 @@ struct Lead {
 }
 
 // The page start, or the pointer, at the place: there is no room for the pointer to which it leads.
+#[inline(never)]
 pub(crate) fn chain_slot(sliced: &Sliced) -> Option<Explanation>
     ensures { ExplainsIn Rule.ChainSlot sliced.now result }
 {
@@ -65,6 +66,7 @@ pub(crate) fn chain_slot(sliced: &Sliced) -> Option<Explanation>
 }
 
 // The pointer at the place, which binds an import that is not there.
+#[inline(never)]
 pub(crate) fn chain_bind(sliced: &Sliced) -> Option<Explanation>
     ensures { ExplainsIn Rule.ChainBind sliced.now result }
 {

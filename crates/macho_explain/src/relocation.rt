@@ -33,6 +33,7 @@ struct Relocations {
 }
 
 // The relocation that begins at the place.
+#[inline(never)]
 pub(crate) fn relocation(sliced: &Sliced) -> Option<Explanation>
     ensures { ExplainsIn Rule.Relocation sliced.now result }
 {

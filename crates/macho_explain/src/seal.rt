@@ -28,6 +28,7 @@ use macho_signature::{Blob, CodeDirectory};
 const MOST_DIRECTORIES: u32 = 6;
 
 // No code directory is in the slot 0: the command that should name a signature, if there is one.
+#[inline(never)]
 pub(crate) fn signature_missing(sliced: &Sliced) -> Option<Explanation>
     ensures { ExplainsIn Rule.SignatureMissing sliced.now result }
 {
@@ -43,6 +44,7 @@ pub(crate) fn signature_missing(sliced: &Sliced) -> Option<Explanation>
 }
 
 // The entry at the place: an earlier one has the same slot of code directories.
+#[inline(never)]
 pub(crate) fn directory_repeated(sliced: &Sliced) -> Option<Explanation>
     ensures { ExplainsIn Rule.DirectoryRepeated sliced.now result }
 {
@@ -76,6 +78,7 @@ fn first_in_slot(signature: &Signature, slot: u32) -> Option<(u32, Blob)>
 }
 
 // The byte at the place, which is past the start of the signature and in no part of it.
+#[inline(never)]
 pub(crate) fn signature_slack(sliced: &Sliced) -> Option<Explanation>
     ensures { ExplainsIn Rule.SignatureSlack sliced.now result }
 {
@@ -97,6 +100,7 @@ enum Hashed {
 }
 
 // The page, or the blob of the signature, at the place: a code directory has another hash.
+#[inline(never)]
 pub(crate) fn signature_hash(sliced: &Sliced) -> Option<Explanation>
     ensures { ExplainsIn Rule.SignatureHash sliced.now result }
 {

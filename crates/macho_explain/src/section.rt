@@ -90,6 +90,7 @@ fn section_here(sliced: &Sliced) -> Option<(Spot, SectionAt, SegmentAt)>
 }
 
 // The first addresses of a section and of its segment, or the last ones.
+#[inline(never)]
 pub(crate) fn section_address(sliced: &Sliced) -> Option<Explanation>
     ensures { ExplainsIn Rule.SectionAddress sliced.now result }
 {
@@ -110,6 +111,7 @@ pub(crate) fn section_address(sliced: &Sliced) -> Option<Explanation>
 }
 
 // Where the bytes of a section begin, or end, and where by its segment.
+#[inline(never)]
 pub(crate) fn section_file(sliced: &Sliced) -> Option<Explanation>
     ensures { ExplainsIn Rule.SectionFile sliced.now result }
 {
@@ -131,6 +133,7 @@ pub(crate) fn section_file(sliced: &Sliced) -> Option<Explanation>
 }
 
 // Where the relocations of a section end, and the image.
+#[inline(never)]
 pub(crate) fn section_relocs(sliced: &Sliced) -> Option<Explanation>
     ensures { ExplainsIn Rule.SectionRelocs sliced.now result }
 {

@@ -131,6 +131,7 @@ impl SegmentAt {
 }
 
 // The addresses of a segment, and how many there are from its start on.
+#[inline(never)]
 pub(crate) fn segment_address(sliced: &Sliced) -> Option<Explanation>
     ensures { ExplainsIn Rule.SegmentAddress sliced.now result }
 {
@@ -141,6 +142,7 @@ pub(crate) fn segment_address(sliced: &Sliced) -> Option<Explanation>
 }
 
 // The sizes of a segment in the file and in memory.
+#[inline(never)]
 pub(crate) fn segment_size(sliced: &Sliced) -> Option<Explanation>
     ensures { ExplainsIn Rule.SegmentSize sliced.now result }
 {
@@ -151,6 +153,7 @@ pub(crate) fn segment_size(sliced: &Sliced) -> Option<Explanation>
 }
 
 // Where the file bytes of a segment end, and the image.
+#[inline(never)]
 pub(crate) fn segment_file(sliced: &Sliced) -> Option<Explanation>
     ensures { ExplainsIn Rule.SegmentFile sliced.now result }
 {
@@ -161,6 +164,7 @@ pub(crate) fn segment_file(sliced: &Sliced) -> Option<Explanation>
 }
 
 // The first earlier segment that has an address of a segment.
+#[inline(never)]
 pub(crate) fn segment_overlap(sliced: &Sliced) -> Option<Explanation>
     ensures { ExplainsIn Rule.SegmentOverlap sliced.now result }
 {
@@ -173,6 +177,7 @@ pub(crate) fn segment_overlap(sliced: &Sliced) -> Option<Explanation>
 }
 
 // The first earlier segment that has a file byte of a segment.
+#[inline(never)]
 pub(crate) fn segment_file_overlap(sliced: &Sliced) -> Option<Explanation>
     ensures { ExplainsIn Rule.SegmentFileOverlap sliced.now result }
 {

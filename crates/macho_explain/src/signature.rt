@@ -44,6 +44,7 @@ pub(crate) fn signature_of<'a>(sliced: &Sliced<'a>) -> Option<Signature<'a>>
 }
 
 // The first byte of a signature that has no superblob; or an entry whose blob is misplaced.
+#[inline(never)]
 pub(crate) fn signature_blob(sliced: &Sliced) -> Option<Explanation>
     ensures { ExplainsIn Rule.SignatureBlob sliced.now result }
 {
@@ -59,6 +60,7 @@ pub(crate) fn signature_blob(sliced: &Sliced) -> Option<Explanation>
 }
 
 // The first byte of a signature with no code directory in the slot 0; or an entry whose blob is no sound one.
+#[inline(never)]
 pub(crate) fn signature_directory(sliced: &Sliced) -> Option<Explanation>
     ensures { ExplainsIn Rule.SignatureDirectory sliced.now result }
 {
@@ -74,6 +76,7 @@ pub(crate) fn signature_directory(sliced: &Sliced) -> Option<Explanation>
 }
 
 // The entry of a code directory that does not cover the image up to the signature.
+#[inline(never)]
 pub(crate) fn signature_whole(sliced: &Sliced) -> Option<Explanation>
     ensures { ExplainsIn Rule.SignatureWhole sliced.now result }
 {

@@ -162,6 +162,7 @@ fn reached_at(
 }
 
 // The byte of an opcode of the rebases, and the greatest one.
+#[inline(never)]
 pub(crate) fn rebase_opcode(sliced: &Sliced) -> Option<Explanation>
     ensures { ExplainsIn Rule.RebaseOpcode sliced.now result }
 {
@@ -174,6 +175,7 @@ pub(crate) fn rebase_opcode(sliced: &Sliced) -> Option<Explanation>
 }
 
 // The byte of an opcode of the binds, and the greatest one.
+#[inline(never)]
 pub(crate) fn bind_opcode(sliced: &Sliced) -> Option<Explanation>
     ensures { ExplainsIn Rule.BindOpcode sliced.now result }
 {
@@ -186,6 +188,7 @@ pub(crate) fn bind_opcode(sliced: &Sliced) -> Option<Explanation>
 }
 
 // Where the last slot of the rebases ends, and how many bytes can be written.
+#[inline(never)]
 pub(crate) fn rebase_slot(sliced: &Sliced) -> Option<Explanation>
     ensures { ExplainsIn Rule.RebaseSlot sliced.now result }
 {
@@ -194,6 +197,7 @@ pub(crate) fn rebase_slot(sliced: &Sliced) -> Option<Explanation>
 }
 
 // The same of the binds.
+#[inline(never)]
 pub(crate) fn bind_slot(sliced: &Sliced) -> Option<Explanation>
     ensures { ExplainsIn Rule.BindSlot sliced.now result }
 {
@@ -202,6 +206,7 @@ pub(crate) fn bind_slot(sliced: &Sliced) -> Option<Explanation>
 }
 
 // How many rebases there are up to and including the opcode, and pointers that can be written.
+#[inline(never)]
 pub(crate) fn rebase_total(sliced: &Sliced) -> Option<Explanation>
     ensures { ExplainsIn Rule.RebaseTotal sliced.now result }
 {
@@ -215,6 +220,7 @@ pub(crate) fn rebase_total(sliced: &Sliced) -> Option<Explanation>
 }
 
 // The same of the binds of a stream.
+#[inline(never)]
 pub(crate) fn bind_total(sliced: &Sliced) -> Option<Explanation>
     ensures { ExplainsIn Rule.BindTotal sliced.now result }
 {
@@ -228,6 +234,7 @@ pub(crate) fn bind_total(sliced: &Sliced) -> Option<Explanation>
 }
 
 // The ordinal that an opcode sets, and how many libraries there are.
+#[inline(never)]
 pub(crate) fn bind_library(sliced: &Sliced) -> Option<Explanation>
     ensures { ExplainsIn Rule.BindLibrary sliced.now result }
 {
@@ -238,6 +245,7 @@ pub(crate) fn bind_library(sliced: &Sliced) -> Option<Explanation>
 }
 
 // How many binds have no name.
+#[inline(never)]
 pub(crate) fn bind_symbol(sliced: &Sliced) -> Option<Explanation>
     ensures { ExplainsIn Rule.BindSymbol sliced.now result }
 {
@@ -250,6 +258,7 @@ pub(crate) fn bind_symbol(sliced: &Sliced) -> Option<Explanation>
 }
 
 // How many bytes of names were looked up, and how many the stream has.
+#[inline(never)]
 pub(crate) fn bind_names(sliced: &Sliced) -> Option<Explanation>
     ensures { ExplainsIn Rule.BindNames sliced.now result }
 {

@@ -51,6 +51,7 @@ fn symbol_with(image: &Image, place: u64) -> Option<(Symbol, u32)>
 }
 
 // Where the name of a symbol begins in the strings, and where these end.
+#[inline(never)]
 pub(crate) fn symbol_name(sliced: &Sliced) -> Option<Explanation>
     ensures { ExplainsIn Rule.SymbolName sliced.now result }
 {
@@ -59,6 +60,7 @@ pub(crate) fn symbol_name(sliced: &Sliced) -> Option<Explanation>
 }
 
 // The same of the name that an indirect symbol stands in for.
+#[inline(never)]
 pub(crate) fn symbol_indirect(sliced: &Sliced) -> Option<Explanation>
     ensures { ExplainsIn Rule.SymbolIndirect sliced.now result }
 {
@@ -86,6 +88,7 @@ fn name_from(sliced: &Sliced, offset: u64) -> Conflict
 }
 
 // The number of a section, and how many there are.
+#[inline(never)]
 pub(crate) fn symbol_section(sliced: &Sliced) -> Option<Explanation>
     ensures { ExplainsIn Rule.SymbolSection sliced.now result }
 {
@@ -95,6 +98,7 @@ pub(crate) fn symbol_section(sliced: &Sliced) -> Option<Explanation>
 }
 
 // The ordinal of a library, and how many there are.
+#[inline(never)]
 pub(crate) fn symbol_library(sliced: &Sliced) -> Option<Explanation>
     ensures { ExplainsIn Rule.SymbolLibrary sliced.now result }
 {
@@ -104,6 +108,7 @@ pub(crate) fn symbol_library(sliced: &Sliced) -> Option<Explanation>
 }
 
 // The address of a symbol, which no segment has.
+#[inline(never)]
 pub(crate) fn symbol_value(sliced: &Sliced) -> Option<Explanation>
     ensures { ExplainsIn Rule.SymbolValue sliced.now result }
 {
@@ -112,6 +117,7 @@ pub(crate) fn symbol_value(sliced: &Sliced) -> Option<Explanation>
 }
 
 // The indirect entry at the place, and how many symbols there are.
+#[inline(never)]
 pub(crate) fn indirect_index(sliced: &Sliced) -> Option<Explanation>
     ensures { ExplainsIn Rule.IndirectIndex sliced.now result }
 {
