@@ -86,7 +86,7 @@ install-lib: built-lib
 	    $(TO_PYTHON)/kesvuot
 	install -m 644 man/kesvuot.3 $(TO_MAN)/man3
 	for call in $(CALLS); do ln -sf kesvuot.3 $(TO_MAN)/man3/$$call.3 || exit; done
-	install -m 644 docs/rules/*.md $(TO_DOC)/rules
+	packaging/pages $(TO_DOC)/rules docs/rules/*.md
 	$(FILL_TOOL) packaging/kesvuot.in >$(TO_BIN)/kesvuot
 	chmod 755 $(TO_BIN)/kesvuot
 	install -m 644 man/kesvuot.1 $(TO_MAN)/man1

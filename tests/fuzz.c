@@ -52,7 +52,7 @@ enum { VERDICTS = KESVUOT_SEALED + 1 };
 #define AND_ONE(rule, name) +1
 
 // How many rules there are. Their numbers begin at 1, and none is left out.
-enum { RULE_COUNT = RULES(AND_ONE) SEALED_RULES(AND_ONE) };
+enum { RULE_COUNT = LAYOUT_RULES(AND_ONE) STRICT_RULES(AND_ONE) LINKED_RULES(AND_ONE) SEALED_RULES(AND_ONE) };
 
 // The kinds from VERDICT on are no rule, and the rules by their numbers.
 enum {

@@ -34,7 +34,7 @@ from fixtures.files import LINKED, SEALED
 from fixtures.notation import read_vectors
 from readers import code_signature, export_trie, plain_dyld
 from reference import explanations, oracle, oracle_trials
-from support.calling import TOP
+from support.calling import TOP, wait_until
 from support.programs import MACHO_VERIFY, PROFILES
 from support.rules import read_rules
 
@@ -1258,8 +1258,7 @@ def judge_threads(report):
     for _ in range(20):
         kesvuot.verify(data)
     report.case("what another thread does during calls", count - started, 0)
-    time.sleep(0.01)
-    report.case("and after them", count > started, True)
+    report.case("and after them", wait_until(lambda: count > started), True)
     is_over = True
     other.join()
     sys.setswitchinterval(before)

@@ -18,10 +18,10 @@
  * says where bytes lie in the file, by their offset from its start. So a struct can be copied, stored and sent, and it
  * still serves if the file has moved in memory.
  *
- * Every call is safe on any bytes, and on any numbers in the structures below. It does not rely on earlier calls:
- * neither that kesvuot_verify accepted the file, nor that a structure is still as a call wrote it. Every span that it
- * writes lies in the file that it got. A part that would lie outside is left empty. In an accepted file no part is
- * empty for that reason, which is proved, and each part is as rules/layout.md says.
+ * Every call is safe on any bytes, and on any numbers in the structures. It does not rely on earlier calls: neither
+ * that kesvuot_verify accepted the file, nor that a structure is still as a call wrote it. Every span that it writes
+ * lies in the file that it got. A part that would lie outside is left empty. In an accepted file no part is empty for
+ * that reason, which is proved, and each part is as rules/layout.md says.
  *
  * You must ensure:
  * - Each pointer is valid for as many bytes or rows as you pass. It may be null only if the size or count is 0.
@@ -57,19 +57,19 @@ static inline int kesvuot_is_compatible(void) {
     return version >> 16 == KESVUOT_VERSION >> 16 && version >> 8 >= KESVUOT_VERSION >> 8;
 }
 
-/* Some bytes of the file: `size` bytes, of which the first is at `offset`. An empty span has the offset 0. */
+/* Some bytes of the file: `size` bytes from `offset` on. An empty span has the offset 0. */
 struct kesvuot_span {
     uint64_t offset;
     uint64_t size;
 };
 
-/* What a call returns. Each call says which of these it can return. */
+/* What a call returns. Each call says which it can return. */
 enum {
     /* registry: statuses */
-    KESVUOT_OK = 0,
+    KESVUOT_OK = 0,        /* the file is accepted, or the result is written */
     KESVUOT_REFUSED = 1,   /* the bytes break a rule */
-    KESVUOT_NO_MEMORY = 2, /* memory ran out: there is no verdict. kesvuot_verify says for which files this can be */
-    KESVUOT_NONE = 3,      /* there is no such rule, profile, name, slice, command, table, symbol or address */
+    KESVUOT_NO_MEMORY = 2, /* memory ran out before a verdict. kesvuot_verify says for which files this can be */
+    KESVUOT_NONE = 3,      /* the rule, profile, name, slice, command, table, symbol or address does not exist */
     KESVUOT_UNREAD = 4,    /* the slice is 32-bit or big-endian: nothing in it is judged */
     KESVUOT_ZERO = 5,      /* the address is mapped, but to no byte of the file: a loader puts a zero there */
     KESVUOT_UNKNOWN_PROFILE = 6 /* no profile has the number that kesvuot_verify got */
@@ -86,12 +86,14 @@ enum {
     KESVUOT_LINKED = 3, /* the rules judge where the linked data of an image lies; what the opcodes of LC_DYLD_INFO and
                            LC_DYLD_INFO_ONLY, the table of LC_DYLD_CHAINED_FIXUPS and the chains of pointers in the
                            pages ask a dynamic loader for; what the image exports; where functions start and data is in
-                           code; how a code signature is built; what symbols and relocations refer to; where threads
-                           begin; and what all other commands of loader.h hold. rules/linked.md explains the rules */
+                           code; how a code signature is built; what symbols, stubs and relocations refer to; where
+                           threads and initializers begin; and what all other commands of loader.h hold. rules/linked.md
+                           explains the rules */
     KESVUOT_SEALED = 4  /* each image has a code signature; each code directory has the hashes of all bytes before the
-                           signature and of the blobs in special slots; and each nonzero byte from the signature on is
-                           in the signature's header, its index or a blob. The profile does not say who signed, and it
-                           reads nothing outside of the file. rules/sealed.md explains the rules */
+                           signature and of the blobs in special slots; no byte of the signature can be executed; and
+                           each nonzero byte from the signature on is in the signature's header, its index or a blob.
+                           The profile does not say who signed, and it reads nothing outside of the file.
+                           rules/sealed.md explains the rules */
     /* registry: end */
 };
 
@@ -171,17 +173,21 @@ enum {
     KESVUOT_FUNCTION_NUMBER = 61,
     KESVUOT_FUNCTION_START = 62,
     KESVUOT_DATA_IN_CODE = 63,
+    KESVUOT_INIT_OFFSET = 84,
     KESVUOT_SIGNATURE_BLOB = 69,
     KESVUOT_SIGNATURE_DIRECTORY = 70,
     KESVUOT_SIGNATURE_WHOLE = 71,
     KESVUOT_SYMBOL_LIBRARY = 72,
     KESVUOT_SYMBOL_VALUE = 73,
     KESVUOT_SYMBOL_INDIRECT = 74,
+    KESVUOT_INDIRECT_RANGE = 82,
+    KESVUOT_OBSOLETE_TABLE = 83,
     KESVUOT_RELOCATION = 75,
     KESVUOT_THREAD = 76,
     KESVUOT_COMMAND_CONTENT = 77,
     /* of the sealed profile: rules/sealed.md explains them */
     KESVUOT_SIGNATURE_MISSING = 78,
+    KESVUOT_SIGNATURE_EXECUTABLE = 85,
     KESVUOT_DIRECTORY_REPEATED = 79,
     KESVUOT_SIGNATURE_SLACK = 80,
     KESVUOT_SIGNATURE_HASH = 81
@@ -201,14 +207,14 @@ struct kesvuot_verdict {
  * also accepted by each profile before it.
  * For SEALED the bytes before the signature are hashed for each code directory; an image has at most six.
  *
- * OK: no rule is broken, and `slices` is set. REFUSED: `rule` is the first broken rule, and the file breaks it at
- * `place`. NO_MEMORY: there is no verdict. All other fields are 0.
+ * OK: no rule is broken, and `slices` is set. All other fields are 0. REFUSED: `rule` is the first broken rule, and the
+ * file breaks it at `place`. All other fields are 0. NO_MEMORY: memory ran out before a verdict. All fields are 0.
  * UNKNOWN_PROFILE: no profile has this number. Nothing is written.
  *
- * Memory can run out only for these files. For every other file there is a verdict, however little memory is left.
+ * Memory can run out only for these files. Every other file gets a verdict, however little memory is left.
  * LAYOUT: a universal file, or a file whose mapped segments neither ascend nor descend by address.
- * STRICT: also a file that LAYOUT accepts, if the slices do not ascend, or if in some slice the segments do not ascend
- * by file offset, the elements do not, a range is encrypted, or a byte 0x90 (a NOP) is in no element.
+ * STRICT: also a file that LAYOUT accepts, if the slices do not ascend. Also if in some slice the segments do not
+ * ascend by file offset, the elements do not, a range is encrypted, or a byte 0x90 (a NOP) is in no element.
  * LINKED and SEALED: also a file that STRICT accepts, if some slice has more than 16 mapped segments, several
  * executable ones that have bytes in the file, or an export trie. */
 int kesvuot_verify(const void *file, size_t size, uint32_t profile, struct kesvuot_verdict *verdict);
@@ -218,7 +224,8 @@ int kesvuot_verify(const void *file, size_t size, uint32_t profile, struct kesvu
  * more than max, call again with that much room. All bytes are printable ASCII or line feeds, whatever names the file
  * has. Each call judges the file again, by the profile LAYOUT, and allocates memory for the whole layout.
  * OK: as much as fits is written. REFUSED: the file breaks a rule, which kesvuot_verify gives. NO_MEMORY: memory ran
- * out for the verdict or the layout. After REFUSED and NO_MEMORY `needed` is 0, and `text` is unchanged. */
+ * out for the verdict or the layout.
+ * After REFUSED and NO_MEMORY `needed` is 0, and `text` is unchanged. */
 uint32_t kesvuot_layout(const void *file, size_t size, char *text, size_t max, size_t *needed);
 
 /* A constant text of the library. A zero byte, which size does not count, follows it. */
@@ -354,6 +361,8 @@ struct kesvuot_explanation {
 uint32_t kesvuot_explain(const void *file, size_t size, const struct kesvuot_verdict *verdict,
                          struct kesvuot_explanation *explanation);
 
+/* Architectures */
+
 /* The name of the architecture of a slice, such as "x86_64" or "arm64e", as LLVM's lipo prints it. The capability byte
  * of the cpusubtype does not matter.
  * OK: the name is written. NONE: the library knows no name for the numbers, and the name is empty. */
@@ -377,10 +386,10 @@ uint32_t kesvuot_arch_named(const void *name, size_t name_size, uint32_t *cputyp
  * byte is at image.slice.offset + fileoff. Reserved fields are 0.
  *
  * A name contains no zero byte, and can be empty. A zero byte follows a nonempty name of a command, library, symbol or
- * export, but not always that of a segment or section, which can fill all its 16 bytes: use size.
+ * export, but not always the name of a segment or section, which can fill all its 16 bytes: use `size`.
  *
- * The comments of the fields say what holds of them in an accepted file. "Any number" is not judged: test such a field
- * before you use it as an index, an offset or a shift. */
+ * The comments of the fields say what holds of them in an accepted file. A field with "any number" is not judged: test
+ * it before you use it as an index, an offset or a shift. */
 
 /* Which parts an image has: bits of `has`. */
 enum {
@@ -435,10 +444,12 @@ struct kesvuot_image {
 
 /* The image of a slice, counted from 0. Only the load commands of that slice are read, so the number of slices does not
  * matter.
- * OK: all fields are written. Those of parts that the image does not have are 0. This is no verdict on the file.
- * UNREAD: the slice is 32-bit or big-endian. slice, and cputype and cpusubtype of the universal table are written; all
- * other fields are 0.
- * NONE: the file has no such slice. REFUSED: no accepted file has such bytes there. In both cases all fields are 0. */
+ * OK: all fields are written. The fields of parts that the image does not have are 0. This is not a verdict on the
+ * file.
+ * UNREAD: the slice is 32-bit or big-endian. `slice` is written, and `cputype` and `cpusubtype` of the universal table.
+ * All other fields are 0. Acceptance says nothing about what is inside the slice.
+ * NONE: the file has no such slice. All fields are 0. REFUSED: no accepted file has such bytes there. All fields are
+ * 0. */
 uint32_t kesvuot_read_image(const void *file, size_t size, uint64_t slice, struct kesvuot_image *image);
 
 /* Tables of an image
@@ -575,10 +586,13 @@ struct kesvuot_cdhash { /* the hash of a code directory */
     uint32_t hash_type; /* of the directory: CS_HASHTYPE_SHA1 (1), SHA256 (2), SHA256_TRUNCATED (3) or SHA384 (4) */
 };
 
+/* All load commands, whether rules/layout.md lists them or not. */
 size_t kesvuot_read_commands(const void *file, size_t size, const struct kesvuot_image *image,
                              struct kesvuot_cursor *cursor, struct kesvuot_command *rows, size_t max);
+/* The segments, in the order of their commands. */
 size_t kesvuot_read_segments(const void *file, size_t size, const struct kesvuot_image *image,
                              struct kesvuot_cursor *cursor, struct kesvuot_segment *rows, size_t max);
+/* The sections of all segments. */
 size_t kesvuot_read_sections(const void *file, size_t size, const struct kesvuot_image *image,
                              struct kesvuot_cursor *cursor, struct kesvuot_section *rows, size_t max);
 /* The libraries that the image loads, by LC_LOAD_DYLIB, LC_LOAD_WEAK_DYLIB, LC_REEXPORT_DYLIB, LC_LAZY_LOAD_DYLIB and
@@ -588,11 +602,12 @@ size_t kesvuot_read_libraries(const void *file, size_t size, const struct kesvuo
 /* Each LC_BUILD_VERSION, and each LC_VERSION_MIN_.. of at least 16 bytes. rules/layout.md does not list the latter. */
 size_t kesvuot_read_builds(const void *file, size_t size, const struct kesvuot_image *image,
                            struct kesvuot_cursor *cursor, struct kesvuot_build *rows, size_t max);
+/* The symbols, without their names. */
 size_t kesvuot_read_symbols(const void *file, size_t size, const struct kesvuot_image *image,
                             struct kesvuot_cursor *cursor, struct kesvuot_symbol *rows, size_t max);
 
 /* The indirect symbol table. Each row is the index of a symbol, below symbol_count, or has the bit
- * INDIRECT_SYMBOL_LOCAL or INDIRECT_SYMBOL_ABS or both. With one of these, the other bits are any number. */
+ * INDIRECT_SYMBOL_LOCAL or INDIRECT_SYMBOL_ABS or both. Then the other bits are any number. */
 size_t kesvuot_read_indirects(const void *file, size_t size, const struct kesvuot_image *image,
                               struct kesvuot_cursor *cursor, uint32_t *rows, size_t max);
 
@@ -620,8 +635,8 @@ size_t kesvuot_read_data_in_code(const void *file, size_t size, const struct kes
                                  struct kesvuot_cursor *cursor, struct kesvuot_data_in_code *rows, size_t max);
 
 /* The blobs of the code signature, by the first LC_CODE_SIGNATURE, in the order of its index. Each lies in the
- * superblob, past its index and past the blob before it. They end before the first of which this does not hold. There
- * are none if the data has no superblob with the magic CSMAGIC_EMBEDDED_SIGNATURE (0xfade0cc0) that ends in it. In a
+ * superblob, past its index and past the blob before it. They end before the first that does not. There are none if
+ * the data has no superblob with the magic CSMAGIC_EMBEDDED_SIGNATURE (0xfade0cc0) that ends in it. In a
  * file that was not accepted, there are also none if the data ends past the slice.
  * In a file that the linked profile accepts no blob of the index is left out. */
 size_t kesvuot_read_blobs(const void *file, size_t size, const struct kesvuot_image *image,
@@ -633,7 +648,7 @@ size_t kesvuot_read_blobs(const void *file, size_t size, const struct kesvuot_im
  * vector. All fields are 0.
  * In a file that the linked profile accepts each blob in a slot of code directories (0, 0x1000 to 0x1004) is one.
  * Its names and hashes lie in it, hash_type is known, and `limit` is where the signature begins in the slice, so there
- * is a hash for each page before that. That the pages have these hashes is what the sealed profile judges. */
+ * is a hash for each page before that. Only the sealed profile compares the hashes with the pages. */
 uint32_t kesvuot_read_code_directory(const void *file, size_t size, const struct kesvuot_blob *blob,
                                      struct kesvuot_code_directory *directory);
 
@@ -641,8 +656,8 @@ uint32_t kesvuot_read_code_directory(const void *file, size_t size, const struct
  * directory's own type of hashes. Neither the slot of the blob matters, nor what the directory says of the code.
  * OK: all fields are written.
  * NONE: kesvuot_read_code_directory returns NONE for the blob, or its hash_type is not known. All fields are 0.
- * In a file that the linked profile accepts each blob in a slot of code directories has one. It names the bytes of
- * the directory alone: that the pages have the hashes in it is what the sealed profile judges.
+ * In a file that the linked profile accepts each blob in a slot of code directories has one. It is about the bytes of
+ * the directory alone: only the sealed profile compares the hashes in it with the pages.
  * The call takes time in proportion to the size of the blob, and no memory. */
 uint32_t kesvuot_read_cdhash(const void *file, size_t size, const struct kesvuot_blob *blob,
                              struct kesvuot_cdhash *cdhash);
@@ -656,8 +671,8 @@ uint32_t kesvuot_read_cdhash(const void *file, size_t size, const struct kesvuot
 uint32_t kesvuot_symbol_name(const void *file, size_t size, const struct kesvuot_image *image, uint32_t strx,
                              struct kesvuot_span *name);
 
-/* The names of `count` symbols, as kesvuot_symbol_name writes them one by one: names[k] is that of rows[k], and empty
- * where that call returns NONE. Returns how many names it wrote, the lesser of `count` and `max`. Later names are
+/* The names of `count` symbols, as kesvuot_symbol_name writes them one by one: names[k] is the name of rows[k], and
+ * empty where that call returns NONE. Returns how many names it wrote, the lesser of `count` and `max`. Later names are
  * unchanged. In a hostile file a batch can take count * strings_size of time: sum up the sizes as above, and pass few
  * symbols at once. */
 size_t kesvuot_read_names(const void *file, size_t size, const struct kesvuot_image *image,
@@ -665,9 +680,9 @@ size_t kesvuot_read_names(const void *file, size_t size, const struct kesvuot_im
 
 /* Symbols by address
  *
- * An index names the symbols whose value is an address by their indices in the table of symbols, in the order of these
- * addresses. Such a symbol has the type N_SECT, and is no debugging entry (N_STAB). Symbols at one address are in the
- * order of the table. The caller has the memory of an index: image.symbol_count entries are enough.
+ * An index names the symbols whose value is an address by their indices in the table of symbols, in the order of the
+ * addresses. Such a symbol has the type N_SECT, and is not a debugging entry (N_STAB). Symbols at one address are in
+ * the order of the table. The caller has the memory of an index: image.symbol_count entries are enough.
  *
  *     size_t count = kesvuot_index_symbols(file, size, &image, index, max), at;
  *     struct kesvuot_symbol symbol;
@@ -684,17 +699,17 @@ size_t kesvuot_index_symbols(const void *file, size_t size, const struct kesvuot
  * several symbols at one address it is the last in the table. It may be of another section than the address, or its end
  * may be before the address: the format has no sizes of symbols.
  * OK: the symbol, and in `at` the position of its entry: index[at] is its index in the table.
- * NONE: no symbol of the index begins at or before the address. All fields are 0, but `section`, which is
+ * NONE: no symbol of the index begins at or before the address. All fields are 0, except `section`, which is
  * KESVUOT_NO_SECTION.
  * With any other numbers in the index, the call finds an entry whose symbol begins at or before the address, while the
  * next entry's, if there is one, does not. It makes a binary search, and reads no load commands. */
 uint32_t kesvuot_find_symbol(const void *file, size_t size, const struct kesvuot_image *image, const uint32_t *index,
                              size_t count, uint64_t address, struct kesvuot_symbol *symbol, size_t *at);
 
-/* The first symbol in the table with this name, of `name_size` bytes, that is no debugging entry (N_STAB). It need not
- * be defined in the image: look at its type.
+/* The first symbol in the table with this name, of `name_size` bytes, that is not a debugging entry (N_STAB). It need
+ * not be defined in the image: look at its type.
  * OK: the symbol, and in `number` its index in the table.
- * NONE: there is no such symbol. All fields are 0, but `section`, which is KESVUOT_NO_SECTION.
+ * NONE: no symbol has the name. All fields are 0, except `section`, which is KESVUOT_NO_SECTION.
  * A symbol with strx 0 has no name, not an empty one. The call reads all symbols, and compares at most
  * name_size + 1 bytes of each: for many names, read the symbols once. */
 uint32_t kesvuot_find_name(const void *file, size_t size, const struct kesvuot_image *image, const void *name,
@@ -710,7 +725,7 @@ struct kesvuot_export {       /* an export. Only the linked profile judges its f
     uint64_t address;         /* before any slide: the sum of the base and a number of the trie, modulo 2^64, but of an
                                  absolute symbol the number alone. 0 of a re-export. It can be in no segment */
     uint64_t resolver;        /* STUB_AND_RESOLVER: the address of the function that finds the one to call, a sum as
-                                 well. `address` is then that of a stub. Otherwise, and of a re-export, 0 */
+                                 well. `address` is then a stub's. Otherwise, and of a re-export, 0 */
     uint64_t ordinal;         /* REEXPORT: which library has the symbol, counted from 1 on in the order of
                                  kesvuot_read_libraries. Any number. Otherwise 0 */
     struct kesvuot_span name; /* REEXPORT: its name there. Empty if that is the same, and of all other exports */
@@ -718,19 +733,19 @@ struct kesvuot_export {       /* an export. Only the linked profile judges its f
 };
 
 /* What an image exports under a name of `name_size` bytes, as a dynamic loader looks it up: at each node of the trie,
- * the first edge whose string begins the rest of the name leads on. The trie is that of kesvuot_find_export_trie.
+ * the first edge whose string begins the rest of the name leads on. kesvuot_find_export_trie says where the trie is.
  * Addresses count from `base` of the image, which is 0 if it has none.
  * OK: the export is written.
- * NONE: the image exports no such name, or has no trie. Also if a node on the way does not end in the trie, if a number
- * or the name of the export does not end in its part of the node, or if the nodes on the way, each counted as often as
- * it is met, have more bytes than the trie. All fields are 0.
+ * NONE: the image exports no such name, or has no trie. Also if a node on the way does not end in the trie, or a number
+ * or the name of the export does not end in its part of the node. Also if the nodes on the way, each counted as often
+ * as it is met, have more bytes than the trie. All fields are 0.
  * The call reads the load commands, and then the nodes on the way. It takes no memory. */
 uint32_t kesvuot_find_export(const void *file, size_t size, const struct kesvuot_image *image, const void *name,
                              size_t name_size, struct kesvuot_export *found);
 
 /* Where the export trie of an image lies in the file, as the linked profile finds it: the data of the first
- * LC_DYLD_EXPORTS_TRIE. If there is none, or its datasize is 0, it is the export_size bytes from export_off on of the
- * first LC_DYLD_INFO_ONLY, or without that of the first LC_DYLD_INFO.
+ * LC_DYLD_EXPORTS_TRIE. Without one, or if its datasize is 0, it is the export_size bytes from export_off on of the
+ * first LC_DYLD_INFO_ONLY, or without that command, of the first LC_DYLD_INFO.
  * OK: the bytes of the trie, at least one byte.
  * NONE: the image has no trie. In a file that was not accepted, also if the trie ends past the slice, or the headers
  * break a rule. The span is empty.
@@ -738,14 +753,16 @@ uint32_t kesvuot_find_export(const void *file, size_t size, const struct kesvuot
 uint32_t kesvuot_find_export_trie(const void *file, size_t size, const struct kesvuot_image *image,
                                   struct kesvuot_span *trie);
 
-/* All exports of an image are those of the nodes that are reached from the root, which is at offset 0 of the trie: the
- * name of each is made of the labels on the way to its node. The walk is that of the caller, who keeps which nodes are
- * left, and the labels that lead to them. guide/c.md has one.
+/* All exports
+ *
+ * The exports of an image are at the nodes that are reached from the root, which is at offset 0 of the trie. The name
+ * of each is made of the labels on the way to its node. The caller walks: it keeps which nodes are left, and the labels
+ * that lead to them. guide/c.md has a walk.
  *
  * A node reaches from its offset to the `place` of its cursor past its last edge. In a file that the linked profile
  * accepts, the nodes that are met, each as often as it is met, have no more bytes than the trie. In any other an edge
  * can lead back, and two can lead to one node: there a caller adds up the bytes of the nodes, and stops where they are
- * more than those of the trie. */
+ * more than the trie has. */
 
 struct kesvuot_export_node {       /* a node of an export trie. Only the linked profile judges it */
     struct kesvuot_export exported; /* what the name that ends here is exported as, if has_export is 1. Otherwise 0 */
@@ -810,10 +827,10 @@ enum {
     /* registry: end */
 };
 
-/* A table of an image, by one of these numbers. With several such commands it is a table of the first, LC_DYLD_INFO or
- * LC_DYLD_INFO_ONLY alike. The linked profile accepts no second one of these two.
+/* A table of an image, by a number such as KESVUOT_TABLE_REBASE. With several such commands it is a table of the first,
+ * LC_DYLD_INFO or LC_DYLD_INFO_ONLY alike. The linked profile accepts only one of the two commands, once.
  * OK: all bytes of the table. If it has no items, there are none, whatever its offset is.
- * NONE: the image has no such command, or there is no such number. In a file that was not accepted, also if the table
+ * NONE: the image has no such command, or no table has the number. In a file that was not accepted, also if the table
  * ends past the image. After NONE the span is empty. */
 uint32_t kesvuot_find_table(const void *file, size_t size, const struct kesvuot_image *image, uint32_t table,
                             struct kesvuot_span *bytes);

@@ -56,14 +56,14 @@ const (
 	Strict Profile = 2
 	// Linked: the rules judge where the linked data of an image lies; what the opcodes of LC_DYLD_INFO and
 	// LC_DYLD_INFO_ONLY, the table of LC_DYLD_CHAINED_FIXUPS and the chains of pointers in the pages ask a dynamic loader
-	// for; what the image exports; where functions start and data is in code; how a code signature is built; what symbols
-	// and relocations refer to; where threads begin; and what all other commands of loader.h hold. rules/linked.md
-	// explains the rules.
+	// for; what the image exports; where functions start and data is in code; how a code signature is built; what symbols,
+	// stubs and relocations refer to; where threads and initializers begin; and what all other commands of loader.h hold.
+	// rules/linked.md explains the rules.
 	Linked Profile = 3
 	// Sealed: each image has a code signature; each code directory has the hashes of all bytes before the signature and of
-	// the blobs in special slots; and each nonzero byte from the signature on is in the signature's header, its index or a
-	// blob. The profile does not say who signed, and it reads nothing outside of the file. rules/sealed.md explains the
-	// rules.
+	// the blobs in special slots; no byte of the signature can be executed; and each nonzero byte from the signature on is
+	// in the signature's header, its index or a blob. The profile does not say who signed, and it reads nothing outside of
+	// the file. rules/sealed.md explains the rules.
 	Sealed Profile = 4
 	// registry: end
 )

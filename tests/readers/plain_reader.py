@@ -6,18 +6,18 @@ superblob, of a blob, or of the bytes before the signature. So does what it has 
 version, a hash or a page that is not known, blobs that share bytes, a signature without a directory, a page without a
 hash or a hash without a page, and bytes before the signature that no directory has hashes of. So do a library, a symbol
 or a section that is not there, an address of a symbol that no segment has, a relocation of a loader that is not of a
-pointer, a thread without a start or with two, a second thread or routine, one that begins where no code is, and a
-command for another kind of image. So it ends on all files, and on one that breaks the rules of linked.md it says
-how.
+pointer, an entry of the indirect symbol table that is not there, an initializer, a thread or a routine that begins
+where no code is, a thread without a start or with two, a second thread or routine, and a command for another kind of
+image. So it ends on all files, and on one that breaks the rules of linked.md it says how.
 
 It reads the superblob, its index and all blobs. In each code directory it reads the fields of its version, the
-identifier, the team, the hashes of the special slots, and each page with its hash. What a hash should be it does not
-ask.
+identifier, the team, the hashes of the special slots and before encryption, the linkage, and each page with its hash.
+What a hash should be it does not ask.
 
 `read_seal` reads signatures alone, and asks that: it compares each page and each blob of a special slot with its hash
 in each directory. A hash that is another, or that is not there, raises `Breach`, and so do a byte that is not in
-exactly one page, a byte of the signature or past it that is not zero and in no blob, two directories of one slot, and
-an image without a signature. So it says how a file breaks the rules of sealed.md.
+exactly one page, a byte of the signature or past it that is not zero and in no blob, two directories of one slot, a
+signature that can be executed, and an image without a signature. So it says how a file breaks the rules of sealed.md.
 
 From tests/reference/oracle.py it takes the commands, segments and sections of an image, and nothing that decodes what
 it reads here.
@@ -31,7 +31,8 @@ from kesvuot.constants import (
     LC_LINKER_OPTION, LC_LOADFVMLIB, LC_PREBIND_CKSUM, LC_PREBOUND_DYLIB, LC_PREPAGE, LC_ROUTINES, LC_ROUTINES_64,
     LC_SEGMENT, LC_SOURCE_VERSION, LC_SUB_CLIENT, LC_SUB_FRAMEWORK, LC_SUB_LIBRARY, LC_SUB_UMBRELLA, LC_SYMSEG,
     LC_SYMTAB, LC_TARGET_TRIPLE, LC_THREAD, LC_TWOLEVEL_HINTS, LC_UNIXTHREAD, LC_VERSION_MIN_IPHONEOS,
-    LC_VERSION_MIN_MACOSX, LC_VERSION_MIN_TVOS, LC_VERSION_MIN_WATCHOS, N_SECT, N_STAB, N_TYPE, VM_PROT_EXECUTE)
+    LC_VERSION_MIN_MACOSX, LC_VERSION_MIN_TVOS, LC_VERSION_MIN_WATCHOS, N_SECT, N_STAB, N_TYPE, SECTION_TYPE,
+    VM_PROT_EXECUTE)
 
 from .plain_dyld import LOADS, Breach
 
@@ -52,6 +53,12 @@ MOST_SHIFTED = 31
 MH_TWOLEVEL, OTHER_LIBRARIES = 0x80, (0, 0xfe, 0xff)
 N_UNDF, N_INDR, N_PBUD, SYMBOL_SIZE = 0x0, 0xa, 0xc, 16
 RELOCATION_SIZE, POINTER_LENGTH, ARM64_RELOC_ADDEND = 8, 3, 10
+# Sections whose items have entries of the indirect symbol table, and a section of offsets of initializers.
+S_NON_LAZY_SYMBOL_POINTERS, S_LAZY_SYMBOL_POINTERS, S_SYMBOL_STUBS = 0x6, 0x7, 0x8
+S_LAZY_DYLIB_SYMBOL_POINTERS, S_THREAD_LOCAL_VARIABLE_POINTERS, S_INIT_FUNC_OFFSETS = 0x10, 0x14, 0x16
+POINTERS_TO_SYMBOLS = (S_NON_LAZY_SYMBOL_POINTERS, S_LAZY_SYMBOL_POINTERS, S_LAZY_DYLIB_SYMBOL_POINTERS,
+                       S_THREAD_LOCAL_VARIABLE_POINTERS)
+POINTER_SIZE, INDIRECT_SIZE, INIT_OFFSET_SIZE = 8, 4, 4
 
 # mach/i386/thread_status.h and mach/arm/thread_status.h. The states with registers, by the cputype and the flavor:
 # where the start of the thread is in their words. Those of x86_THREAD_STATE are another state.
@@ -142,6 +149,16 @@ class Directory:
             raise Breach("hash %d is of no page of the %d bytes" % (slot, limit))
         return signed.bytes_at(start, min(self.page_length(), limit - start))
 
+    def read_before_encryption(self):
+        """Reads the hashes that the pages have before they are encrypted, if there are any."""
+        offset = self.blob.number(92) if self.version >= 0x20500 else 0
+        if offset != 0:
+            self.blob.bytes_at(offset, self.count * self.hash_size)
+
+    def read_linkage(self):
+        if self.version >= 0x20600:
+            self.blob.bytes_at(self.blob.number(100), self.blob.number(104))
+
     def read_pages(self, signed):
         """Reads each page, and its hash."""
         limit = self.limit()
@@ -165,6 +182,8 @@ def read_directory(blob, signed):
     directory.texts()
     for slot in range(1, directory.special_count + 1):
         directory.hash_of(-slot)
+    directory.read_before_encryption()
+    directory.read_linkage()
     directory.read_pages(signed)
 
 def blobs_of(superblob):
@@ -307,6 +326,34 @@ def read_relocations(image, whole, symbols):
             if is_of_loader and bits >> 25 & 3 != POINTER_LENGTH:
                 raise Breach("a loader has a relocation of %d bytes" % 2 ** (bits >> 25 & 3))
 
+def read_indirects(image, whole):
+    """Reads the entry of each stub and of each pointer to a symbol. They are numbered from `reserved1` of a section on,
+    and `reserved2` is how many bytes a stub has."""
+    dysymtab = image.only(LC_DYSYMTAB)
+    count = 0 if dysymtab is None else dysymtab.nindirectsyms
+    start = dysymtab.indirectsymoff if count > 0 else 0
+    table = whole.part(start, INDIRECT_SIZE * count, "indirect symbols")
+    for section in image.sections:
+        kind = section.flags & SECTION_TYPE
+        if kind == S_SYMBOL_STUBS or kind in POINTERS_TO_SYMBOLS:
+            size = section.reserved2 if kind == S_SYMBOL_STUBS else POINTER_SIZE
+            if size == 0:
+                raise Breach("stubs have no bytes")
+            items, rest = divmod(section.size, size)
+            if rest > 0:
+                raise Breach("the last item of a section is cut")
+            table.bytes_at(INDIRECT_SIZE * section.reserved1, INDIRECT_SIZE * items)
+
+def go_to_initializers(image, whole):
+    """Goes to each initializer whose offset from the base stands in a section."""
+    for section in image.sections:
+        if section.flags & SECTION_TYPE == S_INIT_FUNC_OFFSETS and section.segment.vmsize > 0:
+            end = section.offset + section.size
+            for place in range(section.offset, end, INIT_OFFSET_SIZE):
+                if place + INIT_OFFSET_SIZE > end or image.base is None:
+                    raise Breach("the initializer at 0x%x is cut, or there is no base" % place)
+                go_to(image, image.base + whole.number(place, INIT_OFFSET_SIZE))
+
 def starts_of_state(cputype, flavor, words):
     """Where a thread starts that has such a state: once, or not at all."""
     if (cputype, flavor) == (CPU_TYPE_X86_64, x86_THREAD_STATE):
@@ -367,27 +414,43 @@ def read_commands(image, whole):
         raise Breach("there are %d threads and %d routines" % (threads, routines))
 
 def signatures(image):
-    """The signatures of an image that has been opened, each with the bytes before it and those past it."""
+    """The commands of the signatures of an image that has been opened."""
+    return [command for command in image.listed if command.cmd == LC_CODE_SIGNATURE and command.datasize > 0]
+
+def parts_of(image, command):
+    """A signature, the bytes before it, and those past it."""
     whole = Part(image.data, "image")
-    for command in image.listed:
-        if command.cmd == LC_CODE_SIGNATURE and command.datasize > 0:
-            end = command.dataoff + command.datasize
-            yield (whole.part(command.dataoff, command.datasize, "signature"),
-                   whole.part(0, command.dataoff, "bytes before the signature"),
-                   whole.part(end, len(image.data) - end, "bytes past the signature"))
+    end = command.dataoff + command.datasize
+    return (whole.part(command.dataoff, command.datasize, "signature"),
+            whole.part(0, command.dataoff, "bytes before the signature"),
+            whole.part(end, len(image.data) - end, "bytes past the signature"))
+
+def run_all(image, command):
+    """Runs each executable byte of the file. None is one of the signature, of which there is no hash."""
+    signature = range(command.dataoff, command.dataoff + command.datasize)
+    for segment in image.segments:
+        if segment.vmsize > 0 and segment.initprot & VM_PROT_EXECUTE:
+            start = max(segment.fileoff, signature.start)
+            if start < min(segment.fileoff + segment.filesize, signature.stop):
+                raise Breach("the byte of the signature at 0x%x is run" % start)
 
 def read_seal(image):
-    """Compares what an image that has been opened is signed with."""
-    found = list(signatures(image))
+    """Compares what an image that has been opened is signed with, and runs its code."""
+    found = signatures(image)
     if not found:
         raise Breach("there is no signature")
-    for table, signed, past in found:
-        compare_signature(table, signed, past)
+    for command in found:
+        compare_signature(*parts_of(image, command))
+        run_all(image, command)
 
 def read(image):
-    """Reads what an image that has been opened is signed with, its symbols and relocations, and its other commands."""
-    for table, signed, _ in signatures(image):
+    """Reads what an image that has been opened is signed with, its symbols, relocations and initializers, and its other
+    commands."""
+    for command in signatures(image):
+        table, signed, _ = parts_of(image, command)
         read_signature(table, signed)
     whole = Part(image.data, "image", "little")
     read_relocations(image, whole, read_symbols(image, whole))
+    read_indirects(image, whole)
+    go_to_initializers(image, whole)
     read_commands(image, whole)

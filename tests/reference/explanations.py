@@ -586,9 +586,10 @@ def function_variants(image: Any, place: int) -> Explanation:
 
 def table_home(image: Any, place: int) -> Explanation:
     named = oracle.linkedit_segments(image)
-    tables = {table.start: table for table in oracle.linked_tables(image) if table.command == place}
+    tables = {table.start: table for table in [*oracle.linked_tables(image), *oracle.symbol_tables(image)]
+              if table.command == place}
     for part in table_parts(image, listed_at(image, place)):
-        if part.size == 0:
+        if part.size == 0 or part.start not in tables:
             continue
         end = part.start + part.size
         if not named:
@@ -835,11 +836,26 @@ def function_number(image: Any, place: int) -> Explanation:
 def function_start(image: Any, place: int) -> Explanation:
     address = image.base + sum(distance for it, distance in oracle.function_numbers(image)[0] if it <= place)
     end = oracle.operand(image.data, place, image.length, "number")[1]
-    at, table = structure("function_start", place, end - place), linked_table(image, "function starts")
+    return of_function(image, structure("function_start", place, end - place), linked_table(image, "function starts"),
+                       address)
+
+
+def of_function(image: Any, at: Part, table: Part, address: int) -> Explanation:
+    """A function at an address, and the segment there."""
     for segment in image.segments:
         if segment.vmaddr <= most(address) < segment.vmaddr + segment.vmsize:
             return Explanation(at, table, memory_part(image, segment), address, segment.vmaddr + segment.filesize)
     return Explanation(at, table, NONE, address, 0)
+
+
+def init_offset(image: Any, place: int) -> Explanation:
+    section = next(it for it in image.sections if it.flags & 0xff == 0x16 and it.segment.vmsize > 0
+                   and it.offset <= place < it.offset + it.size)
+    at = structure("byte", place, 1)
+    own = Part("section_bytes", section_index(image, section.place), section.offset, section.size, section.place)
+    if place + 4 > section.offset + section.size:
+        return Explanation(at, own, NONE, section.size, 4)
+    return of_function(image, at, own, image.base + little(image.data, place))
 
 
 def data_in_code(image: Any, place: int) -> Explanation:
@@ -964,7 +980,10 @@ def directory_numbers(data: bytes, start: int, length: int, dataoff: int) -> Opt
         (limit > dataoff, limit, dataoff),
         (page_size <= 31 and slots != page_count(limit, page_size), slots, page_count(limit, min(page_size, 31))),
         (has_no_end(word(20)), word(20), length),
-        (version >= 0x20200 and has_no_end(word(48)), word(48), length)]
+        (version >= 0x20200 and has_no_end(word(48)), word(48), length),
+        (version >= 0x20500 and word(92) != 0 and word(92) + slots * hash_size > length, word(92) + slots * hash_size,
+         length),
+        (version >= 0x20600 and word(100) + word(104) > length, word(100) + word(104), length)]
     return next(((value, most_of) for is_wrong, value, most_of in compared if is_wrong), None)
 
 
@@ -999,6 +1018,28 @@ def symbol_indirect(image: Any, place: int) -> Explanation:
     strings, value = symtab_tables(image)[1], little(image.data, place + 8, 8)
     rest = Part("name", NO_INDEX, most(strings.start + value), max(0, strings.size - value), place)
     return of_symbol(image, place, rest, strings, value, strings.size)
+
+
+def indirect_range(image: Any, place: int) -> Explanation:
+    section, index = image.sections[section_index(image, place)], section_index(image, place)
+    own = Part("section_bytes", index, section.offset, section.size, place)
+    stride = section.reserved2 if section.flags & 0xff == 8 else 8
+    if stride == 0 or section.size % stride != 0:
+        return of_section(image, place, own, NONE, section.size, stride)
+    dysymtab = image.only(oracle.LC_DYSYMTAB)
+    entries, count = (table_parts(image, dysymtab)[3], dysymtab.nindirectsyms) if dysymtab else (NONE, 0)
+    return of_section(image, place, own, entries, section.reserved1 + section.size // stride, count)
+
+
+def obsolete_table(image: Any, place: int) -> Explanation:
+    command = listed_at(image, place)
+    counts = command.ntoc, command.nmodtab, command.nextrefsyms, 0, command.nextrel, command.nlocrel
+    index = next(index for index, count in enumerate(counts) if count > 0)
+    second = NONE
+    if index > 2:
+        fixups = next(it for it in image.commands if "fixups" in oracle.kinds_of(it))
+        second = command_part(image, fixups.place)
+    return of_command(image, place, table_parts(image, command)[index], second, counts[index], 0)
 
 
 def relocation_tables(image: Any) -> list[Part]:
@@ -1053,6 +1094,11 @@ def signature_blobs(image: Any) -> list[tuple[int, Part]]:
     start = linked_table(image, "signature").start
     entries = [signature_entry(image, start + 12 + 8 * index) for index in range(big(image.data, start + 8))]
     return [(big(image.data, entry.start), blob_part(image, entry)) for entry in entries]
+
+
+def signature_executable(image: Any, place: int) -> Explanation:
+    own, table = segment_part(image, segment_at(image, place)), linked_table(image, "signature")
+    return of_command(image, place, own, table, *shared_by(own, table))
 
 
 def directory_repeated(image: Any, place: int) -> Explanation:
@@ -1119,6 +1165,7 @@ OF_IMAGE = {rule.__name__: rule for rule in (
     table_repeated, function_variants, table_home, header_home, rebase_opcode, bind_opcode, bind_library, bind_symbol,
     bind_names, chain_header, chain_starts, chain_imports, chain_total, chain_library, chain_slot, chain_bind,
     export_node, export_total, export_terminal, export_library, export_address, function_number, function_start,
-    data_in_code, signature_blob, signature_directory, signature_whole, symbol_library, symbol_value, symbol_indirect,
-    relocation, thread, command_content, signature_missing, directory_repeated, signature_slack, signature_hash)}
+    data_in_code, init_offset, signature_blob, signature_directory, signature_whole, symbol_library, symbol_value, symbol_indirect,
+    indirect_range, obsolete_table, relocation, thread, command_content, signature_missing, signature_executable,
+    directory_repeated, signature_slack, signature_hash)}
 OF_IMAGE.update(rebase_slot=bad_slot, bind_slot=bad_slot, rebase_total=total, bind_total=total)

@@ -122,6 +122,10 @@ ARCHITECTURES = {
 # mach-o/loader.h
 SECTION_TYPE = 0x000000ff
 S_ZEROFILL, S_GB_ZEROFILL, S_THREAD_LOCAL_ZEROFILL = 0x1, 0xc, 0x12
+# The sections with indirect entries: of pointers, lazy or not, of stubs, and of pointers of two other types.
+S_SYMBOL_STUBS = 0x8
+TYPES_WITH_INDIRECTS = (0x6, 0x7, S_SYMBOL_STUBS, 0x10, 0x14)
+S_INIT_FUNC_OFFSETS, INIT_OFFSET_SIZE = 0x16, 4
 SG_PROTECTED_VERSION_1 = 0x8
 INDIRECT_SYMBOL_LOCAL, INDIRECT_SYMBOL_ABS = 0x80000000, 0x40000000
 MH_TWOLEVEL = 0x80
@@ -224,6 +228,7 @@ SPECIAL_SLOTS = range(1, 0x1000)
 LEAST_VERSION = 0x20000
 FIELDS_SIZES = {0: 44, 0x20100: 48, 0x20200: 52, 0x20300: 64, 0x20400: 88, 0x20500: 96, 0x20600: 108}
 CS_SUPPORTSSCATTER, CS_SUPPORTSTEAMID, CS_SUPPORTSCODELIMIT64 = 0x20100, 0x20200, 0x20300
+CS_SUPPORTSRUNTIME, CS_SUPPORTSLINKAGE = 0x20500, 0x20600
 HASH_SIZES = {1: 20, 2: 32, 3: 20, 4: 48}
 HASHES = {
     1: ("sha1", hashlib.sha1),
@@ -234,8 +239,9 @@ HASHES = {
 GREATEST_PAGE_SIZE = 31
 CS_CDHASH_LEN = 20
 
-# The byte that Apple's linker fills the gaps of code with.
-NOP = b"\x90"
+# The instructions that do nothing, by the cputype, with which linkers fill the gaps of code. One begins at a multiple of
+# its size.
+NOPS = {CPU_TYPE_X86_64: bytes.fromhex("90"), CPU_TYPE_ARM64: bytes.fromhex("1f2003d5")}
 
 def rows_of(row, profile="layout"):
     """The cells of the rows that have this form, of the page with the rules of a profile."""
@@ -270,6 +276,13 @@ LINKED_TABLES = {
     for rows in [rows_of(r"^\| (`LC_\w+`(?:, `LC_\w+`)?) \| `(\w+)` \| `(\w+)` \| ([a-z ]+) \| ?(\w*) ?\|$",
                          "linked")]
     for command in re.findall(r"LC_\w+", " ".join(row[0] for row in rows))
+}
+
+# The symbol tables, by the command: the start, the count, the bytes per entry.
+SYMBOL_TABLES = {
+    COMMANDS[command][0]: [(start, count, int(size)) for start, count, size, owner in rows if owner == command]
+    for rows in [rows_of(r"^\| [a-z ]+ \| `(\w+)` \| `(\w+)`, of (\d+) bytes? each \| `(LC_\w+)` \|$", "linked")]
+    for *_, command in rows
 }
 
 # The opcodes of the rebase stream and those of the others, by their bytes: the name, and the operands.
@@ -837,17 +850,26 @@ def command_slack(image):
         for offset in first_stray(content, ranges):
             yield command.place + offset
 
+def is_nop(image, place):
+    """The byte is one of a NOP of the processor."""
+    nop = NOPS.get(image.header.cputype)
+    if nop is None:
+        return False
+    start = place - place % len(nop)
+    return image.data[start:start + len(nop)] == nop
+
 def unclaimed_byte(image):
-    """A byte that is not zero lies among the file bytes of a segment, but in no element, and is no NOP."""
+    """A byte that is not zero lies among the file bytes of a segment, but in no element, and is not of a NOP of code."""
     unclaimed = list(gaps(image.length, [(start, size) for _, start, size in elements(image)]))
     ends = [end for _, end in unclaimed]
     for segment in image.segments:
-        expected = b"\0" + NOP if segment.initprot & VM_PROT_EXECUTE else b"\0"
         segment_end = segment.fileoff + segment.filesize
         at = bisect.bisect(ends, segment.fileoff)
         while at < len(unclaimed) and unclaimed[at][0] < segment_end:
             start, end = max(unclaimed[at][0], segment.fileoff), min(unclaimed[at][1], segment_end)
-            place = first_other(image.data, start, end, expected)
+            place = first_other(image.data, start, end, b"\0")
+            while place < end and segment.initprot & VM_PROT_EXECUTE and is_nop(image, place):
+                place = first_other(image.data, place + 1, end, b"\0")
             if place < end:
                 yield place
                 break
@@ -865,6 +887,14 @@ def linked_tables(image):
             first, length = getattr(command, start), getattr(command, size)
             if length > 0:
                 yield SimpleNamespace(command=command.place, kind=kind, stream=stream, start=first, end=first + length)
+
+def symbol_tables(image):
+    """The symbol tables, in command order: of each its command, start and end."""
+    for command in image.listed:
+        for start, count, size in SYMBOL_TABLES.get(command.cmd, []):
+            first, length = getattr(command, start), getattr(command, count) * size
+            if length > 0:
+                yield SimpleNamespace(command=command.place, start=first, end=first + length)
 
 def is_readable(segment):
     return segment.initprot & VM_PROT_READ != 0
@@ -899,11 +929,14 @@ def budget(image):
 def library_count(image):
     return sum(command.cmd in LIBRARIES for command in image.commands)
 
+def kinds_of(command):
+    return {kind for _, _, kind, _ in LINKED_TABLES.get(command.cmd, [])}
+
 def table_repeated(image):
     """The command is of a kind of some earlier command."""
     earlier = set()
     for command in image.commands:
-        kinds = {kind for _, _, kind, _ in LINKED_TABLES.get(command.cmd, [])}
+        kinds = kinds_of(command)
         if kinds & earlier:
             yield command.place
         earlier |= kinds
@@ -915,15 +948,16 @@ def function_variants(image):
             yield command.place
 
 def table_home(image):
-    """The command names a table of which some linkedit segment is no home, or without such a segment, or encrypted."""
+    """The command names a table or a symbol table of which some linkedit segment is no home, or without such a segment,
+    or encrypted."""
     named = linkedit_segments(image)
-    for table in linked_tables(image):
+    for table in [*linked_tables(image), *symbol_tables(image)]:
         if not named or not all(is_home(segment, table) for segment in named) or is_encrypted(image, table):
             yield table.command
 
 def header_home(image):
-    """There is a table, and the base is not safe, or not where the text segments are."""
-    if any(linked_tables(image)) and not (has_safe_base(image) and is_text_at_base(image)):
+    """The base is not safe, or not where the text segments are."""
+    if not (has_safe_base(image) and is_text_at_base(image)):
         yield 0
 
 def has_safe_base(image):
@@ -1509,6 +1543,27 @@ def data_in_code(image):
             yield place
             return
 
+def init_offset(image):
+    """The size of the section is no multiple of 4, at the last offset, which is cut; or the base + the offset is in no
+    file part that is mapped and executable."""
+    # No two segments share an address, so of those that begin at the address or before it only the last can have it.
+    code = sorted((segment for segment in image.segments if is_mapped(segment) and segment.initprot & VM_PROT_EXECUTE),
+                  key=lambda segment: segment.vmaddr)
+    starts = [segment.vmaddr for segment in code]
+    for section in image.sections:
+        if section.flags & SECTION_TYPE != S_INIT_FUNC_OFFSETS or not is_mapped(section.segment):
+            continue
+        for place in range(section.offset, section.offset + section.size, INIT_OFFSET_SIZE):
+            offset = image.data[place:place + INIT_OFFSET_SIZE]
+            if image.base is None or place + INIT_OFFSET_SIZE > section.offset + section.size:
+                yield place
+                break
+            address = image.base + int.from_bytes(offset, "little")
+            at = last_before(starts, address)
+            if at is None or not is_in_file_part(address, code[at]):
+                yield place
+                break
+
 # Code signatures
 
 def is_superblob(image, table):
@@ -1597,6 +1652,14 @@ def has_good_hashes(directory, blob):
     return (directory.nSpecialSlots * directory.hashSize <= directory.hashOffset
             and directory.hashOffset + directory.nCodeSlots * directory.hashSize <= blob.end - blob.start)
 
+def has_good_parts(directory, blob):
+    """The hashes of the pages before encryption, if there are some, and the linkage are in the blob."""
+    length = blob.end - blob.start
+    if directory.version >= CS_SUPPORTSRUNTIME and directory.preEncryptOffset != 0:
+        if directory.preEncryptOffset + directory.nCodeSlots * directory.hashSize > length:
+            return False
+    return directory.version < CS_SUPPORTSLINKAGE or directory.linkageOffset + directory.linkageSize <= length
+
 def is_text(image, blob, offset):
     """The offset is 0, or that of a text that ends in the blob."""
     return offset == 0 or 0 in image.data[blob.start + offset:blob.end]
@@ -1612,7 +1675,8 @@ def signature_directory(image):
         if (directory is None or not is_known_directory(directory) or not has_good_hashes(directory, blob)
                 or directory.nCodeSlots != slot_count(directory) or limit_of(directory) > table.start
                 or not is_text(image, blob, directory.identOffset)
-                or directory.version >= CS_SUPPORTSTEAMID and not is_text(image, blob, directory.teamOffset)):
+                or directory.version >= CS_SUPPORTSTEAMID and not is_text(image, blob, directory.teamOffset)
+                or not has_good_parts(directory, blob)):
             yield blob.entry
 
 def signature_whole(image):
@@ -1656,6 +1720,27 @@ def symbol_indirect(image):
     for symbol in image.symbols:
         if type_of(symbol) == N_INDR and symbol.n_value > image.last_zero_of_strings:
             yield symbol.place
+
+def indirect_range(image):
+    """The section is of stubs or of pointers to symbols, and they have no size, do not fill it, or have entries past the
+    last one of the indirect symbol table."""
+    dysymtab = image.only(LC_DYSYMTAB)
+    entries = 0 if dysymtab is None else dysymtab.nindirectsyms
+    for section in image.sections:
+        kind = section.flags & SECTION_TYPE
+        if kind in TYPES_WITH_INDIRECTS:
+            stride = section.reserved2 if kind == S_SYMBOL_STUBS else POINTER_SIZE
+            if stride == 0 or section.size % stride != 0 or section.reserved1 + section.size // stride > entries:
+                yield section.place
+
+def obsolete_table(image):
+    """The LC_DYSYMTAB has contents, modules or references; or relocations, and a command names fixups."""
+    dysymtab = image.only(LC_DYSYMTAB)
+    if dysymtab is not None:
+        has_fixups = any("fixups" in kinds_of(command) for command in image.commands)
+        if (any((dysymtab.ntoc, dysymtab.nmodtab, dysymtab.nextrefsyms))
+                or has_fixups and any((dysymtab.nextrel, dysymtab.nlocrel))):
+            yield dysymtab.place
 
 def relocations(image):
     """The relocations of sections, and those of an LC_DYSYMTAB: of each the structure, and whether it is of the latter."""
@@ -1808,6 +1893,15 @@ def signature_missing(image):
     if all(blob.slot != DIRECTORY_SLOTS[0] for blob in blobs(image)):
         yield 0
 
+def signature_executable(image):
+    """The segment is mapped and executable, and its file bytes share a byte with the signature."""
+    table = table_of(image, "signature")
+    for segment in image.segments if table else []:
+        start = max(segment.fileoff, table.start)
+        if (is_mapped(segment) and segment.initprot & VM_PROT_EXECUTE
+                and start < min(segment.fileoff + segment.filesize, table.end)):
+            yield segment.place
+
 def directory_repeated(image):
     """The entry has the slot of an earlier one, and it is a slot of directories."""
     earlier = set()
@@ -1878,12 +1972,14 @@ LINKED_RULES_OF_AN_IMAGE = [
     bind_library, bind_symbol, bind_slot, bind_total, bind_names,
     chain_header, chain_starts, chain_imports, chain_total, chain_library, chain_slot, chain_bind,
     export_node, export_total, export_terminal, export_library, export_address,
-    function_number, function_start, data_in_code,
+    function_number, function_start, data_in_code, init_offset,
     signature_blob, signature_directory, signature_whole,
-    symbol_library, symbol_value, symbol_indirect, relocation,
+    symbol_library, symbol_value, symbol_indirect, indirect_range, obsolete_table, relocation,
     thread, command_content,
 ]
-SEALED_RULES_OF_AN_IMAGE = [signature_missing, directory_repeated, signature_slack, signature_hash]
+SEALED_RULES_OF_AN_IMAGE = [
+    signature_missing, signature_executable, directory_repeated, signature_slack, signature_hash,
+]
 
 def first_of(file, rules_of_the_file, rules_of_an_image):
     """The first broken one of these rules, by name, and the least place in the file at which it is broken; or None."""

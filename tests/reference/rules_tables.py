@@ -3,8 +3,8 @@ are judged, the listed commands and their bounded tables. oracle.py reads all bu
 
     python3 -m reference.rules_tables >rules_tables.h
 
-Each table is a macro with a row `X(..)` for each of its lines. RULES has those of all profiles but the sealed one. A
-row of a command ends with the index of the first of its tables, and how many it has.
+Each table is a macro with a row `X(..)` for each of its lines. A row of a command ends with the index of the first of
+its tables, and how many it has.
 """
 
 from __future__ import annotations
@@ -51,7 +51,6 @@ def header() -> str:
         "// Made by tests/reference/rules_tables.py of docs/rules.\n",
         "".join(constants),
         *(macro(f"{profile}_RULES", rule_rows(names)) for profile, names in rules_of_profiles().items()),
-        "#define RULES(X) LAYOUT_RULES(X) STRICT_RULES(X) LINKED_RULES(X)\n",
         macro("FILETYPES", filetype_rows()),
         macro("LISTED_COMMANDS", command_rows()),
         macro("BOUNDED_TABLES", (", ".join(map(str, table)) for table in TABLES)),

@@ -82,9 +82,13 @@ def has_tool(name: str) -> bool:
     return shutil.which(name) is not None
 
 
-def wait_until(condition: Callable[[], bool], seconds: float = 20) -> bool:
+# How long a busy machine has for what an idle one does at once.
+MOST_SECONDS = 120
+
+
+def wait_until(condition: Callable[[], bool]) -> bool:
     """Waits until the condition holds, and returns whether it does."""
-    end = time.monotonic() + seconds
+    end = time.monotonic() + MOST_SECONDS
     while not condition():
         if time.monotonic() > end:
             return False

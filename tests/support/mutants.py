@@ -54,9 +54,24 @@ def read_mutants() -> list[Mutant]:
     return sorted(mutants)
 
 
-def add_to_gate(mutant: Mutant) -> None:
-    """Moves a mutant from the list of its crate to a file of its own."""
-    path = list_of(mutant.crate)
-    text = path.read_text(encoding="utf-8")
-    (TOP / mutant.edit).write_text(mutant.text, encoding="utf-8")
-    path.write_text(re.sub(rf"^## {mutant.name}\n(?: {{4}}.*\n)*\n?", "", text, flags=re.MULTILINE), encoding="utf-8")
+def write_list(crate: str, listed: dict[str, str]) -> None:
+    """Writes the list of a crate, by name."""
+    entries = [f"## {name}\n" + re.sub("^", "    ", text.rstrip("\n"), flags=re.MULTILINE) + "\n"
+               for name, text in sorted(listed.items())]
+    heading = (f"# Mutants of {crate} that the gate leaves out\n\n`tests/mutants {crate}` tries them. "
+               f"`tests/mutants --gate {crate}/NAME` moves one to the gate.\n")
+    list_of(crate).write_text("\n".join([heading, *entries]), encoding="utf-8")
+
+
+def move(mutants: list[Mutant], to_gate: bool) -> None:
+    """Moves mutants from the lists of their crates to files of their own, which the gate tries, or back."""
+    for crate in {mutant.crate for mutant in mutants}:
+        path = list_of(crate)
+        listed = dict(listed_in(path.read_text(encoding="utf-8"))) if path.is_file() else {}
+        for mutant in mutants:
+            if mutant.crate == crate and to_gate:
+                (TOP / mutant.edit).write_text(listed.pop(mutant.name), encoding="utf-8")
+            elif mutant.crate == crate:
+                (TOP / mutant.edit).unlink()
+                listed[mutant.name] = mutant.text
+        write_list(crate, listed)

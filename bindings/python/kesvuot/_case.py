@@ -67,11 +67,12 @@ MORE_FIELDS: Dict[str, Tuple[str, str]] = {
     "chain-header": ("dataoff datasize fixups_version imports_format symbols_format", ""),
     "chain-starts": ("starts_offset seg_count", "vmaddr vmsize initprot"),
     "chain-imports": ("imports_offset imports_count imports_format", ""), "chain-slot": ("", "initprot flags"),
-    "function-start": ("", "filesize"), "data-in-code": ("offset length kind", "initprot"),
+    "function-start": ("", "filesize"), "init-offset": ("size", "filesize initprot"),
+    "data-in-code": ("offset length kind", "initprot"),
     "signature-blob": ("type offset magic length count", ""),
     **dict.fromkeys(("signature-directory", "signature-whole", "directory-repeated"), ("type offset", "")),
     "symbol-library": ("n_type n_desc", ""), "symbol-value": ("n_type n_sect n_value", ""),
-    "symbol-indirect": ("n_type n_value", ""),
+    "symbol-indirect": ("n_type n_value", ""), "indirect-range": ("size flags reserved1 reserved2", ""),
     **dict.fromkeys(("thread", "command-content"), ("cmd cmdsize", ""))}
 
 

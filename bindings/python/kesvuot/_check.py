@@ -7,7 +7,7 @@ from fnmatch import fnmatchcase
 from functools import partial
 from typing import Any, Callable, Counter, Dict, Iterator, List, NamedTuple, Optional, Tuple
 
-from ._files import File, Refused, verify
+from ._files import File, Image, Refused, verify
 from ._kinds import is_told, other_kind
 from ._pool import map_in_processes
 from ._profiles import DEFAULT
@@ -15,16 +15,27 @@ from ._reading import Contents, NotMachO, read_found, read_given
 
 ACCEPTED, REFUSED, NO_VERDICT, SKIPPED = "accepted", "refused", "no verdict", "skipped"
 STATUSES = {ACCEPTED: 0, SKIPPED: 0, REFUSED: 1, NO_VERDICT: 2}
+# In place of a rule, for a file that is refused by choice: the library accepts it, and judges nothing in one of its
+# slices.
+UNSUPPORTED_SLICE = "unsupported-slice"
 # What is asked of an accepted file, besides the verdict: nothing, its text, or its slices as objects. And of the bytes
 # of a refused one.
 Extra = Optional[Callable[[File], Any]]
 ExtraOfRefused = Optional[Callable[[Contents, Refused], Any]]
 
 
+class Unsupported(NamedTuple):
+    """A slice in which nothing is judged: its index in the file, its architecture, and its size."""
+
+    index: int
+    arch: str
+    size: int
+
+
 class Outcome(NamedTuple):
-    """What is said of a file. A refused one has a rule, a place, and perhaps the kind that is not judged; an accepted
-    one has slices; and one without a verdict a reason. `size` is how many bytes were read. `extra` is what was asked of
-    the file besides."""
+    """What is said of a file. A refused one has a rule, a place, and perhaps the kind or the slice that is not judged;
+    an accepted one has slices; and one without a verdict a reason. `size` is how many bytes were read. `extra` is what
+    was asked of the file besides."""
 
     path: str
     word: str
@@ -35,6 +46,7 @@ class Outcome(NamedTuple):
     kind: Optional[str] = None
     reason: str = ""
     extra: Any = None
+    unsupported: Optional[Unsupported] = None
 
     @property
     def status(self) -> int:
@@ -63,6 +75,7 @@ class Choice(NamedTuple):
     include: Tuple[str, ...] = ()
     exclude: Tuple[str, ...] = ()
     skips_other_kinds: bool = False
+    refuses_unsupported: bool = False
     maps: bool = False
     extra: Extra = None
     of_refused: ExtraOfRefused = None
@@ -139,6 +152,11 @@ def judge(target: Target, choice: Choice) -> Outcome:
         data = (read_found if target.is_found else read_given)(path, choice.maps)
         size = len(data)
         file = verify(data, choice.profile)
+        if choice.refuses_unsupported:
+            for part in file.slices:
+                if not isinstance(part, Image):
+                    return Outcome(path, REFUSED, size, rule=UNSUPPORTED_SLICE, place=part.place,
+                                   unsupported=Unsupported(part.index, part.arch, len(part.bytes)))
         return Outcome(path, ACCEPTED, size, file.slice_count, extra=choice.extra and choice.extra(file))
     except Refused as refused:
         kind = other_kind(refused.rule, refused.place, data)

@@ -145,8 +145,8 @@ def _refused(outcome: Outcome, _profile: str) -> Iterator[str]:
 def _texts(outcome: Outcome, told: Optional[Told]) -> Iterator[str]:
     """What the page says of the rule."""
     rule = RULES[outcome.rule]
-    for text in (rule_text(outcome.rule), f"Why: {rule.why}", f"Usual cause: {rule.cause}", f"To do: {rule.remedy}",
-                 f"To look: {rule.look}"):
+    for text in (rule_text(outcome.rule), f"Why: {rule.why}", f"Usual cause: {rule.cause}",
+                 f"What to do: {rule.remedy}", f"How to look: {rule.look}"):
         yield from _wrapped(text, "")
     yield ""
     yield from (f"  {line}" for line in lines_to_look(outcome, told))
@@ -168,7 +168,7 @@ def lines_to_look(outcome: Outcome, told: Optional[Told]) -> List[str]:
 def _rows(told: Told) -> Rows:
     """Where the place is, which parts are in conflict, and which numbers are compared."""
     it = told.case.explanation
-    rows: Rows = [("place", ", ".join([f"{told.case.place:#x}", *(name for name, _ in _holders(told.case))]))]
+    rows: Rows = [("offset", ", ".join([f"{told.case.place:#x}", *(name for name, _ in _holders(told.case))]))]
     rows += [(name, _range(part)) for name, part in zip(told.case.names, (it.first, it.second)) if part]
     return rows + [(name, f"{number:#x}") for name, number in told.story.numbers]
 

@@ -14,9 +14,9 @@ from ._layout import plain
 from ._names import FILETYPES, LIBRARIES, command_name, protection_text
 from ._structures import LISTED, UNLISTED, number_in, size_of, structure_of
 from .constants import (
-    LC_BUILD_VERSION, LC_DYLD_ENVIRONMENT, LC_DYLIB_CODE_SIGN_DRS, LC_ENCRYPTION_INFO_64, LC_ID_DYLIB, LC_ID_DYLINKER,
-    LC_LINKER_OPTIMIZATION_HINT, LC_LOAD_DYLINKER, LC_NOTE, LC_RPATH, LC_SEGMENT_64, S_GB_ZEROFILL,
-    S_THREAD_LOCAL_ZEROFILL, S_ZEROFILL, VM_PROT_EXECUTE)
+    CPU_TYPE_ARM64, CPU_TYPE_X86_64, LC_BUILD_VERSION, LC_DYLD_ENVIRONMENT, LC_DYLIB_CODE_SIGN_DRS,
+    LC_ENCRYPTION_INFO_64, LC_ID_DYLIB, LC_ID_DYLINKER, LC_LINKER_OPTIMIZATION_HINT, LC_LOAD_DYLINKER, LC_NOTE,
+    LC_RPATH, LC_SEGMENT_64, S_GB_ZEROFILL, S_THREAD_LOCAL_ZEROFILL, S_ZEROFILL, VM_PROT_EXECUTE)
 
 # fat.h: an entry of a universal file, by its magic number: cputype, cpusubtype, offset, size, align.
 FAT_ENTRIES = {b"\xca\xfe\xba\xbe": Struct(">5I"), b"\xca\xfe\xba\xbf": Struct(">2I2Q2I")}
@@ -26,6 +26,11 @@ MH_MAGIC_64 = b"\xcf\xfa\xed\xfe"
 HEADER, COMMAND = Struct("<8I"), Struct("<2I")
 COMMAND_ALIGN = 8
 SEGMENT, SECTION = Struct("<24x4Q3I4x"), Struct("<32x2Q5I12x")
+# The NOP that may pad code, by cputype; and with the place from which its words are counted.
+NOPS = {CPU_TYPE_X86_64: b"\x90", CPU_TYPE_ARM64: b"\x1f\x20\x03\xd5"}
+Padding = Tuple[int, bytes]
+# Where a slice begins and ends, and its index.
+Slice = Tuple[int, int, Optional[int]]
 ZERO_FILL_TYPES = {S_ZEROFILL, S_GB_ZEROFILL, S_THREAD_LOCAL_ZEROFILL}
 RELOCATION_SIZE = 8
 # Which commands have a name, whose offset is the word after cmdsize.
@@ -192,7 +197,7 @@ def image_parts(data: memoryview, part: Part, accepted: Optional[Image] = None,
         yield from _described(part, command)
         for start, stop in _slack(command):
             place = part.start + command.place
-            yield from _runs(data, (place + start, place + stop), part.slice, False)
+            yield from _runs(data, (place + start, place + stop), part.slice, None)
     if not walk.is_whole:
         size = int.from_bytes(image[end + 4:end + 8], "little")
         yield Part("broken walk", "where the load commands cannot be followed", 3, part.start + end, size, part.slice,
@@ -329,16 +334,19 @@ def _rest(data: memoryview, parts: List[Part]) -> Iterator[Part]:
     claimed = merged(_range(part, data) for part in parts
                      if part.kind in ELEMENTS or (part.kind == "slice" and _is_unknown(part, unknown)))
     code = merged(_range(part, data) for part in parts if part.initprot & VM_PROT_EXECUTE)
-    slices = sorted((part.start, part.start + part.size, part.slice) for part in parts if part.kind == "slice")
+    slices: List[Slice] = sorted(
+        (part.start, part.start + part.size, part.slice) for part in parts if part.kind == "slice")
     cuts = sorted({edge for part in parts if part.kind in ("slice", "segment") for edge in _range(part, data)})
     edges = [0, *chain.from_iterable(claimed), len(data)]
     for start, end in zip(edges[::2], edges[1::2]):
         for piece in _pieces(start, end, cuts):
-            yield from _gap(data, piece, _holder(piece[0], slices), _holds(piece[0], code))
+            holder = _holder(piece[0], slices)
+            padding = _padding(data, holder) if _holds(piece[0], code) else None
+            yield from _gap(data, piece, holder and holder[2], padding)
     for part in parts:
         if part.kind == "gap":
             start, end = _range(part, data)
-            yield from _runs(data, (start, end), part.slice, False)
+            yield from _runs(data, (start, end), part.slice, None)
 
 
 def _is_unknown(part: Part, unknown: Iterable[Optional[int]]) -> bool:
@@ -364,31 +372,65 @@ def _holds(place: int, ranges: List[Range]) -> bool:
     return number >= 0 and ranges[number][0] <= place < ranges[number][1]
 
 
-def _holder(place: int, slices: List[Tuple[int, int, Optional[int]]]) -> Optional[int]:
+def _holder(place: int, slices: List[Slice]) -> Optional[Slice]:
     """The slice of a place."""
     number = bisect_right(slices, (place, 1 << 64, 0)) - 1
-    return slices[number][2] if number >= 0 and place < slices[number][1] else None
+    return slices[number] if number >= 0 and place < slices[number][1] else None
 
 
-def _gap(data: memoryview, piece: Range, holder: Optional[int], is_code: bool) -> Iterator[Part]:
-    runs = list(_runs(data, piece, holder, is_code))
-    name = "gap with unclaimed bytes" if runs else "gap of zeros or NOPs" if is_code else "gap of zeros"
+def _padding(data: memoryview, holder: Optional[Slice]) -> Optional[Padding]:
+    """What may pad code of a slice: the NOP of its processor, at multiples of its size from the start of the slice."""
+    if holder is None:
+        return None
+    start = holder[0]
+    nop = NOPS.get(int.from_bytes(data[start + 4:start + 8], "little"))
+    return nop and (start, nop)
+
+
+def _gap(data: memoryview, piece: Range, holder: Optional[int], padding: Optional[Padding]) -> Iterator[Part]:
+    runs = list(_runs(data, piece, holder, padding))
+    name = "gap with unclaimed bytes" if runs else "gap of zeros or NOPs" if padding else "gap of zeros"
     yield Part("gap", name, 0 if holder is None else 2, piece[0], piece[1] - piece[0], holder)
     yield from runs
 
 
-def _runs(data: memoryview, piece: Range, holder: Optional[int], is_code: bool) -> Iterator[Part]:
-    """Runs of bytes that are not zero, nor NOPs if they are executable."""
+def _runs(data: memoryview, piece: Range, holder: Optional[int], padding: Optional[Padding]) -> Iterator[Part]:
+    """Runs of bytes that are not zero, nor padding of code."""
     least = max(NEAR, (piece[1] - piece[0]) // RUNS)
-    wanted = re.compile(rb"[^\0\x90]+" if is_code else rb"[^\0]+")
     start = end = count = 0
-    for first, last in matches(wanted, data, piece):
+    for first, last in _nonzero(data, piece, padding):
         if count and first - end >= least:
             yield _run(start, end, count, holder)
             count = 0
         start, end, count = start if count else first, last, count + last - first
     if count:
         yield _run(start, end, count, holder)
+
+
+def _nonzero(data: memoryview, piece: Range, padding: Optional[Padding]) -> Iterator[Range]:
+    """The bytes that are not zero, outside of NOPs."""
+    if padding and len(padding[1]) == 1:
+        yield from matches(re.compile(rb"[^\0" + re.escape(padding[1]) + rb"]+"), data, piece)
+        return
+    for first, last in matches(re.compile(rb"[^\0]+"), data, piece):
+        yield from _between(data, first, last, *padding) if padding else [(first, last)]
+
+
+def _between(data: memoryview, first: int, last: int, origin: int, nop: bytes) -> Iterator[Range]:
+    """The parts of a range between the NOPs in it, which begin at multiples of their size from a place on."""
+    low = first - (first - origin) % len(nop)
+    some = bytes(data[low:last + len(nop)])
+    at = some.find(nop)
+    while 0 <= at < last - low:
+        step = 1
+        if at % len(nop) == 0:
+            step = len(nop)
+            if first < low + at:
+                yield first, low + at
+            first = max(first, low + at + step)
+        at = some.find(nop, at + step)
+    if first < last:
+        yield first, last
 
 
 def _run(start: int, end: int, count: int, holder: Optional[int]) -> Part:

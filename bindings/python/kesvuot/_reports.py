@@ -9,8 +9,8 @@ from typing import Any, Callable, Dict, Type
 from urllib.parse import quote
 from xml.sax.saxutils import escape, quoteattr
 
-from ._check import ACCEPTED, NO_VERDICT, REFUSED, SKIPPED, Outcome, Summary
-from ._rules import RULES
+from ._check import ACCEPTED, NO_VERDICT, REFUSED, SKIPPED, UNSUPPORTED_SLICE, Outcome, Summary
+from ._rules import RULES, Rule
 
 Write = Callable[[str], Any]
 
@@ -20,23 +20,36 @@ CHECK_VERSION = 1
 KEPT_IN_MEMORY = 1 << 20
 
 
+# With what stands in place of a rule for a file that --no-unsupported-slices refuses.
+RULES_AND_CHOICES: Dict[str, Rule] = {**RULES, UNSUPPORTED_SLICE: Rule(
+    "rules/README.md",
+    "a slice is 32-bit or big-endian, so that no rule judges what is in it. No profile refuses such a file: kesvuot "
+    "check --no-unsupported-slices does.",
+    "what was not judged can hold anything.",
+    "code for a processor such as i386 or PowerPC beside that for the others.",
+    "take the slice out, by lipo -remove, or do without the option.",
+    "its first bytes:", ("od -A x -t x1 -j PLACE -N 4 FILE",))}
+
+
 def shown(path: str) -> str:
     """A path on one line."""
     return "".join(letter if letter.isprintable() else ascii(letter)[1:-1] for letter in path)
 
 
 def rule_text(rule: str) -> str:
-    """When a rule is broken."""
-    return f"Broken when {RULES[rule].broken}"
+    """When a rule is violated."""
+    return f"Violated when {RULES_AND_CHOICES[rule].broken}"
 
 
 def link(rule: str) -> str:
     """The section of a rule on its page."""
-    return f"{RULES[rule].page}#{rule}"
+    return f"{RULES_AND_CHOICES[rule].page}#{rule}"
 
 
 def kind_text(outcome: Outcome) -> str:
-    """Says of a file of another kind which it is."""
+    """Says of a file or of a slice of another kind which it is."""
+    if outcome.unsupported:
+        return f"slice {outcome.unsupported.index}: {outcome.unsupported.arch}, not judged"
     return f"kind: {outcome.kind}, not judged" if outcome.kind else ""
 
 
@@ -56,6 +69,8 @@ def check_object(outcome: Outcome) -> Dict[str, Any]:
     elif outcome.word == REFUSED:
         whole.update(rule=outcome.rule, place=outcome.place, text=rule_text(outcome.rule), link=link(outcome.rule),
                      kind=outcome.kind)
+        if outcome.unsupported:
+            whole.update(slice=outcome.unsupported._asdict())
     else:
         whole.update(verdict=None, error=outcome.reason)
     return whole
@@ -68,6 +83,8 @@ class Report:
     errors = "backslashreplace"
     # The encoding, if it is not that of the locale.
     encoding = ""
+    # What a file can be refused for.
+    rules = RULES
 
     def __init__(self, write: Write, profile: str) -> None:
         self.write = write
@@ -130,14 +147,15 @@ class Sarif(Report):
         super().__init__(write, profile)
         self.separator = "\n        "
         self.faults = tempfile.SpooledTemporaryFile(KEPT_IN_MEMORY, "w+", encoding="ascii")
-        self.numbers = {rule: number for number, rule in enumerate(RULES)}
+        self.numbers = {rule: number for number, rule in enumerate(RULES_AND_CHOICES)}
 
     def begin(self) -> None:
         rules = ",\n            ".join(json.dumps({
             "id": name, "name": name.title().replace("-", ""),
             "shortDescription": {"text": name}, "fullDescription": {"text": rule_text(name)},
-            "help": {"text": f"Why: {rule.why}\nUsual cause: {rule.cause}\nTo do: {rule.remedy}\nSee {link(name)}."},
-            "defaultConfiguration": {"level": "error"}}) for name, rule in RULES.items())
+            "help": {"text": f"Why: {rule.why}\nUsual cause: {rule.cause}\nWhat to do: {rule.remedy}\n"
+                             f"See {link(name)}."},
+            "defaultConfiguration": {"level": "error"}}) for name, rule in self.rules.items())
         self.write(f'{{\n  "$schema": "{self.SCHEMA}",\n  "version": "2.1.0",\n  "runs": [\n    {{\n'
                    f'      "tool": {{\n        "driver": {{\n          "name": "kesvuot",\n          "rules": [\n'
                    f'            {rules}\n          ]\n        }}\n      }},\n'

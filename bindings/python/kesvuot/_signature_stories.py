@@ -18,6 +18,7 @@ FIELDS_SIZES = {0x20000: 44, 0x20100: 48, 0x20200: 52, 0x20300: 64, 0x20400: 88,
 HASH_SIZES = {1: 20, 2: 32, 3: 20, 4: 48}
 MOST_PAGE_SIZE = 31
 SUPPORTS_SCATTER, SUPPORTS_TEAM, SUPPORTS_LIMIT_64 = 0x20100, 0x20200, 0x20300
+SUPPORTS_RUNTIME, SUPPORTS_LINKAGE = 0x20500, 0x20600
 
 # What the blobs in special slots are, CSSLOT_*.
 SPECIAL_SLOTS = {2: "the requirements", 5: "the entitlements", 7: "the entitlements in DER",
@@ -131,6 +132,13 @@ def _faults(it: Teller, found: _Directory) -> Iterator[Fault]:
     for name, what in (("identOffset", "identifier"), ("teamOffset", "team")):
         yield (found.lacks_end(name) and (name == "identOffset" or version >= SUPPORTS_TEAM),
                f"the {what} at {value:#x} of {it.first} does not end in it.", name, "length")
+    earlier = found["preEncryptOffset"]
+    yield (version >= SUPPORTS_RUNTIME and earlier != 0 and earlier + found["nCodeSlots"] * found["hashSize"] > size,
+           f"the hashes before encryption of {it.first} end at {value:#x}, past its end, {it.limit:#x}.",
+           "preEncryptOffset + nCodeSlots * hashSize", "length")
+    yield (version >= SUPPORTS_LINKAGE and found["linkageOffset"] + found["linkageSize"] > size,
+           f"the linkage of {it.first} ends at {value:#x}, past its end, {it.limit:#x}.", "linkageOffset + linkageSize",
+           "length")
 
 
 def signature_whole(it: Teller) -> Story:

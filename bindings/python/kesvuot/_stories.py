@@ -31,6 +31,10 @@ PAGE_SIZES = (0x1000, 0x4000)
 STARTS_SIZE, PAGE_START_SIZE, ENTRY_SIZE, POINTER_SIZE = 22, 2, 4, 8
 # The bit of r_extern, in the last byte of a relocation.
 R_EXTERN = 8
+# The type of a section, and that of stubs. The tables of LC_DYSYMTAB, of which one is not obsolete.
+SECTION_TYPE, S_SYMBOL_STUBS = 0xFF, 8
+INIT_OFFSET_SIZE = 4
+OBSOLETE_TABLES = ("contents", "modules", "references", "", "external relocations", "local relocations")
 # The kinds of data in code, and the last address.
 DICE_KINDS = (1, 2, 3, 4, 5)
 MOST = (1 << 64) - 1
@@ -311,7 +315,9 @@ def _slot(it: Teller) -> Story:
     numbers = "end of the last pointer in the segment", "writable bytes of the segment"
     if not it.second:
         return it.story(f"{it.at} writes to a segment that is not set, or that does not exist.", *numbers)
-    if not it.segment_number("vmsize") or not it.segment_number("initprot") & WRITE:
+    if not it.segment_number("vmsize"):
+        return it.story(f"{it.at} writes to {it.second}, which is not mapped.", *numbers)
+    if not it.segment_number("initprot") & WRITE:
         return it.story(f"{it.at} writes to {it.second}, which cannot be written: "
                         f"{protection_text(it.segment_number('initprot'))}.", *numbers)
     return it.story(f"{it.at} writes up to {it.value:#x} of {it.second}, which has {it.limit:#x} bytes in the file.",
@@ -369,19 +375,21 @@ def _chain_starts(it: Teller) -> Story:
         return it.story(f"the array of segments begins at {begins:#x} of {it.first}, which have {it.limit:#x} bytes.",
                         "starts_offset + 4", "size of the table")
     if it.at_part.kind == "chain-array":
-        where = f"the image has {it.limit}" if it.value > it.limit else f"they end past the end of {it.first}"
-        return it.story(f"there are entries for {count_text(it.value, 'segment')}, and {where}.", "seg_count",
-                        "number of segments")
-    return it.story(_of_starts(it), "end of the starts", "size of the table")
+        many = f"there are entries for {count_text(it.value, 'segment')}"
+        if it.value > it.limit:
+            return it.story(f"{many}, and the image has {it.limit}.", "seg_count", "number of segments")
+        return it.story(f"{many}, and they end past the end of {it.first}.", "seg_count")
+    if it.value > it.limit:
+        return it.story(f"{it.first} end at {it.value:#x} of the table, which has {it.limit:#x} bytes.",
+                        "end of the starts", "size of the table")
+    return it.story(_of_starts(it))
 
 
 def _of_starts(it: Teller) -> str:
-    """What is wrong with the starts of a segment."""
+    """What is wrong with the starts of a segment, which end in the table."""
     def number(field: str) -> int:
         return number_in(it.case.data[it.first_part.start:], "dyld_chained_starts_in_segment", field)
 
-    if it.value > it.limit:
-        return f"{it.first} end at {it.value:#x} of the table, which has {it.limit:#x} bytes."
     needed = STARTS_SIZE + PAGE_START_SIZE * number("page_count")
     if needed > number("size"):
         return (f"{it.first} have {count_text(number('size'), 'byte')}, and need {needed} for "
@@ -515,6 +523,19 @@ def _function_start(it: Teller) -> Story:
                     "vmaddr + filesize")
 
 
+def _init_offset(it: Teller) -> Story:
+    if not it.second and it.limit == INIT_OFFSET_SIZE:
+        return it.story(f"{it.first} have {count_text(it.value, 'byte')}, and each offset has {it.limit}.", "size",
+                        "bytes of each")
+    starts, number = f"the offset at {it.at_part.start:#x} leads to {it.value:#x}", "base + offset"
+    if not it.second:
+        return it.story(f"{starts}, which is in no segment.", number)
+    if it.value < it.limit:
+        return it.story(f"{starts} in {it.second}, which is not executable.", number)
+    return it.story(f"{starts} in {it.second}, whose bytes in the file end at {it.limit:#x}.", number,
+                    "vmaddr + filesize")
+
+
 def _data_in_code(it: Teller) -> Story:
     if it.at_part.kind == "byte":
         return it.story(f"{it.first} has {count_text(it.value, 'byte')}, and each entry has {it.limit}.",
@@ -535,6 +556,22 @@ def _data_in_code(it: Teller) -> Story:
 def _symbol_value(it: Teller) -> Story:
     return it.story(f"{it.at} is of a section, and its value {it.value:#x} is neither an address of a segment nor the end "
                     "of one.", "n_value")
+
+
+def _indirect_range(it: Teller) -> Story:
+    size, stubs = it.case.number("size"), it.case.number("flags") & SECTION_TYPE == S_SYMBOL_STUBS
+    what = "stubs" if stubs else "pointers"
+    if it.value == size and (it.limit == 0 or size % it.limit):
+        return it.story(f"{it.first} have {count_text(size, 'byte')}, which {what} of {count_text(it.limit, 'byte')} do "
+                        "not fill.", "size", "bytes of each")
+    return it.story(f"the entries of the {what} of {it.at} end at {it.value} of the indirect symbol table, which has "
+                    f"{it.limit}.", "reserved1 + number of entries", "nindirectsyms")
+
+
+def _obsolete_table(it: Teller) -> Story:
+    table = f"{it.at} names {OBSOLETE_TABLES[it.first_part.index or 0]}, which older loaders follow"
+    newer = f"newer ones follow {it.second}" if it.second else "newer ones do not"
+    return it.story(f"{table}, and {newer}.", "number of entries")
 
 
 def _relocation(it: Teller) -> Story:
@@ -588,11 +625,14 @@ STORIES: Dict[str, Callable[[Teller], Story]] = {
     "export-node": _export_node, "export-total": _export_total, "export-terminal": _export_terminal,
     "export-library": lambda it: _library(it, "is of"), "export-address": _export_address,
     "function-number": _function_number, "function-start": _function_start, "data-in-code": _data_in_code,
+    "init-offset": _init_offset,
     "signature-blob": signature_blob, "signature-directory": signature_directory, "signature-whole": signature_whole,
     "symbol-library": lambda it: _library(it, "is of"), "symbol-value": _symbol_value,
     "symbol-indirect": lambda it: _ends_in_strings(it, f"the name that {it.at} stands in for", "n_value"),
+    "indirect-range": _indirect_range, "obsolete-table": _obsolete_table,
     "relocation": _relocation, "thread": thread, "command-content": command_content,
-    "signature-missing": signature_missing, "directory-repeated": directory_repeated,
+    "signature-missing": signature_missing, "signature-executable": Teller.shares,
+    "directory-repeated": directory_repeated,
     "signature-slack": signature_slack, "signature-hash": signature_hash}
 
 

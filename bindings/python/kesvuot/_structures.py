@@ -61,7 +61,9 @@ STRUCTURES: Dict[str, Tuple[Field, ...]] = {name: _fields(words) for name, words
     "CS_GenericBlob": "magic length",
     "CS_CodeDirectory":
         "magic length version flags hashOffset identOffset nSpecialSlots nCodeSlots codeLimit hashSize:1 hashType:1 "
-        "platform:1 pageSize:1 spare2 scatterOffset teamOffset spare3 codeLimit64:8",
+        "platform:1 pageSize:1 spare2 scatterOffset teamOffset spare3 codeLimit64:8 execSegBase:8 execSegLimit:8 "
+        "execSegFlags:8 runtime preEncryptOffset linkageHashType:1 linkageApplicationType:1 "
+        "linkageApplicationSubType:2 linkageOffset linkageSize",
     "dyld_chained_fixups_header":
         "fixups_version starts_offset imports_offset symbols_offset imports_count imports_format symbols_format",
     "dyld_chained_starts_in_image": "seg_count",

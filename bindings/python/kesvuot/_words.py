@@ -18,7 +18,7 @@ from ._map import STANDARD_OUTPUT, map_file
 from ._output import GREEN, RED, YELLOW, Output, WriteFailed, coloured, end_at_interrupts, open_errors, say
 from ._profiles import DEFAULT, PROFILES
 from ._progress import Progress, is_terminal
-from ._reports import REPORTS, Report, Write, reason_text, shown
+from ._reports import REPORTS, RULES_AND_CHOICES, Report, Write, reason_text, shown
 from ._show import columns, show
 
 # The version of the package (VERSION).
@@ -151,6 +151,8 @@ def check(words: argparse.Namespace) -> int:
     form = REPORTS.get(words.format)
     output = Output(form.encoding, form.errors) if form else Output()
     report = form(output.write, words.profile) if form else Text(output.write, words.profile, words.quiet)
+    if words.no_unsupported_slices:
+        report.rules = RULES_AND_CHOICES
     try:
         return _report_all(words, output, report)
     finally:
@@ -158,7 +160,8 @@ def check(words: argparse.Namespace) -> int:
 
 
 def _report_all(words: argparse.Namespace, output: Output, report: Report) -> int:
-    choice = Choice(words.profile, True, tuple(words.include), tuple(words.exclude), words.skip_other_kinds, words.mmap)
+    choice = Choice(words.profile, True, tuple(words.include), tuple(words.exclude), words.skip_other_kinds,
+                    words.no_unsupported_slices, words.mmap)
     progress = Progress(_count(words, choice), not words.no_progress)
     if is_terminal(sys.stdout):
         output.clear = progress.clear
@@ -215,6 +218,8 @@ judges those files that begin with a magic number of Mach-O, and follows no link
                         "match the whole path")
     parser.add_argument("--skip-other-kinds", action="store_true",
                         help="skip the refused files that say they are of another kind, such as object files")
+    parser.add_argument("--no-unsupported-slices", action="store_true",
+                        help="refuse universal files with a 32-bit or big-endian slice, in which nothing is judged")
     parser.add_argument("--jobs", type=_positive, default=len(os.sched_getaffinity(0)), metavar="N",
                         help="how many processes judge (one for each processor)")
     parser.add_argument("--mmap", action="store_true", help="map files instead of reading them. ONLY FOR FILES THAT "

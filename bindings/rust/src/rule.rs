@@ -52,7 +52,7 @@ rules! {
     FatSliceOutside = 3,
     /// A slice begins before the end of the table that names it.
     FatSliceInTable = 4,
-    /// The offset of a slice is no multiple of its alignment.
+    /// The offset of a slice is not a multiple of its alignment.
     FatAlign = 5,
     /// A slice has a byte in common with an earlier one.
     FatOverlap = 6,
@@ -70,7 +70,7 @@ rules! {
     FileType = 12,
     /// The load commands end past the end of the image.
     CommandsOutside = 13,
-    /// There is no whole load command where one is due, or its size is impossible.
+    /// A load command is missing or cut, or its size is impossible.
     CommandWalk = 14,
     /// A load command is too small for its own fields.
     CommandShort = 15,
@@ -131,8 +131,8 @@ rules! {
     FunctionVariants = 42,
     /// Linked: a table of linked data is not where a loader finds it, or can change in memory.
     TableHome = 43,
-    /// Linked: there is linked data, and the header cannot be read in memory, or can be written, or is not where
-    /// loaders take the segment named `__TEXT` to be.
+    /// Linked: the header cannot be read in memory, or can be written, or is not where loaders take the segment named
+    /// `__TEXT` to be.
     HeaderHome = 44,
     /// Linked: an opcode of the rebases is not known, or its operands do not end.
     RebaseOpcode = 45,
@@ -184,6 +184,9 @@ rules! {
     /// Linked: an entry of the data in code is cut, of a kind that is not known, or not in the file bytes of an
     /// executable segment.
     DataInCode = 63,
+    /// Linked: an initializer that a section names by an offset is at no executable byte of the file, or the offset is
+    /// cut.
+    InitOffset = 84,
     /// Linked: a blob of the code signature is not where it can be read, or does not begin as its magic number says.
     SignatureBlob = 69,
     /// Linked: a code directory is missing, cut, or of no known form, or something that it names is not inside of it.
@@ -196,6 +199,12 @@ rules! {
     SymbolValue = 73,
     /// Linked: the name that an indirect symbol stands in for does not end within the string table.
     SymbolIndirect = 74,
+    /// Linked: the stubs or symbol pointers of a section have no size, do not fill it, or pass the end of the indirect
+    /// symbol table.
+    IndirectRange = 82,
+    /// Linked: there is a table that only older loaders follow: of contents, modules or references, or of relocations
+    /// beside other fixups.
+    ObsoleteTable = 83,
     /// Linked: a relocation is of no symbol or section of the image, or of no pointer that can be written.
     Relocation = 75,
     /// Linked: the state of a thread is cut or not known, or its entry point is at no executable byte of the file.
@@ -204,6 +213,8 @@ rules! {
     CommandContent = 77,
     /// Sealed: an image has no code signature with a code directory.
     SignatureMissing = 78,
+    /// Sealed: a byte of the code signature lies in memory that may be executed.
+    SignatureExecutable = 85,
     /// Sealed: a code directory is in the slot of an earlier one.
     DirectoryRepeated = 79,
     /// Sealed: a byte of the code signature that is not zero lies in no part of it.

@@ -7,7 +7,7 @@ use Rattle.std.proofs.lemmas.Option.{same_Some, none-some}
 use Rattle.std.proofs.lemmas.Slice.Eq.{bytes_eq-Decides}
 use Rattle.macho_fields.specs.Universal.{masked}
 use Rattle.macho_c.specs.Names.{arch_names, arch_number, number_in, HasArchName, IsArchNamed}
-use Rattle.macho_rows.specs.Status.{KESVUOT_OK, KESVUOT_NONE}
+use Rattle.macho_c.specs.Status.{KESVUOT_OK, KESVUOT_NONE}
 
 -- The table: of each entry, by its two numbers and by its name, the first is the entry itself.
 

@@ -45,7 +45,7 @@ pub no_whole : (P : Node → Type 0) (trie : List ℕ) (offset : ℕ) → head_a
 unfolding node_at
 no_whole P trie offset is = rw is tt
 
--- the cursor of a row is that of its first edge
+-- the cursor of a row is at its first edge
 pub node_edges : (base place : ℕ) (trie : List ℕ) (head : ExportNode) → (node_row base place trie head).edges ≡ first_edge head
 node_edges base place trie head = by (terminal_export trie head.terminal)
   where

@@ -8,8 +8,9 @@ use Rattle.macho_fields.specs.Rules.{BreaksImage}
 use Rattle.macho_spans.specs.Span.{end_of}
 use Rattle.macho_spans.specs.declared.span.Span.{Span}
 use Rattle.macho_exports.specs.Exports.{export_table}
-use Rattle.macho_c.specs.Exports.{exported, IsAnswer, FindsExport}
+use Rattle.macho_c.specs.Exports.{exported, no_export, FindsExport}
 use Rattle.macho_c.specs.ExportTrie.{if_inside}
+use Rattle.macho_c.specs.Status.{Answers}
 use Rattle.macho_rows.specs.Image.{ShowsUnbroken, image_in}
 use Rattle.macho_rows.specs.Rows.{IsBrokenImage}
 use Rattle.macho_c.specs.declared.exports.KesvuotExport.{KesvuotExport}
@@ -20,7 +21,7 @@ use Rattle.macho_rows.proofs.AllSymbols.{unbroken}
 pub never_broken : (image : List ℕ) → IsBrokenImage image None → ¬ NothingBreaks (BreaksImage image None)
 never_broken image (r, place, early, broken) keeps = keeps r place broken
 
--- a table that ends past the image is no trie
+-- a table that ends past the image is not read
 past_none : (image : List ℕ) (table : Span) → ¬ (end_of table ≤ length image) → None ≡ if_inside image table
 past_none image table past = elim (cases_Bool (nat_le (end_of table) (length image))) [
   | inl fits ↦ absurd (past (leb-true _ _ fits))
@@ -41,9 +42,9 @@ never_past image opened table same inside past keeps =
 pub finds : (file : List ℕ) (row : KesvuotImage) → ShowsUnbroken file row → (name : List ℕ) (status : ℕ) (export : KesvuotExport) (found : Option KesvuotExport)
     → (NothingBreaks (BreaksImage (image_in file row) None) → IfSome (export_table (image_in file row)) (λ table. end_of table ≤ length (image_in file row)))
     → (NothingBreaks (BreaksImage (image_in file row) None) → found ≡ exported row.base row.slice.offset (image_in file row) (export_table (image_in file row)) name)
-    → IsAnswer found status export → FindsExport (image_in file row) row.slice.offset name status export
+    → Answers no_export status export found → FindsExport (image_in file row) row.slice.offset name status export
 finds file row shows name status export found inside is answer = (
   inside (unbroken file row shows),
-  subst (λ (base : ℕ). IsAnswer (exported base row.slice.offset (image_in file row) (export_table (image_in file row)) name) status export) shows.0.parts.base
-      (subst (λ (o : Option KesvuotExport). IsAnswer o status export) (is (unbroken file row shows)) answer),
+  subst (λ (base : ℕ). Answers no_export status export (exported base row.slice.offset (image_in file row) (export_table (image_in file row)) name)) shows.0.parts.base
+      (subst (Answers no_export status export) (is (unbroken file row shows)) answer),
 )

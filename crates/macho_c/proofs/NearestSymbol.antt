@@ -1,6 +1,7 @@
--- The last entry of an index at or before an address is that of the nearest symbol.
+-- The last entry of an index at or before an address is the nearest symbol's.
 use Rattle.std.proofs.Common.{◌≡◌, ◌∙◌, ◌⊎◌, ℕ, ◌+◌, ◌*◌, ◌^◌, ◌≤◌, ◌<◌, List, length, get_or, slice_index, true, false, Option, None, Some, slice_get, Contains, inl, inr, refl, sym, subst, arith}
 use Rattle.std.specs.List.{range_with_len}
+use Rattle.std.specs.Prelude.{MatchOption}
 use Rattle.std.proofs.lemmas.Bool.{cases_lt, false≢true, leb-false}
 use Rattle.std.proofs.lemmas.List.{get_or_default}
 use Rattle.std.proofs.lemmas.List.Elements.{filter_passes}
@@ -9,10 +10,7 @@ use Rattle.std.proofs.lemmas.List.Sorted.{All-permutation, Contains-permutation}
 use Rattle.std.proofs.lemmas.Option.{slice_get_within, same_Some}
 use Rattle.macho_image.specs.declared.symbol.Symbol.{Symbol}
 use Rattle.macho_rules.proofs.Mapped.{filtered}
-use Rattle.macho_rows.specs.Status.{KESVUOT_OK, KESVUOT_NONE}
-use Rattle.macho_rows.specs.SymbolIndex.{is_address, has_address, addresses, sort_key, IsIndex, is_at_or_before, BeginsPast, IsLastSymbol, IsFound, IsNearest, HasNoneBefore}
-use Rattle.macho_rows.specs.Symbols.{symbol_row}
-use Rattle.macho_rows.specs.declared.symbols.KesvuotSymbol.{KesvuotSymbol}
+use Rattle.macho_rows.specs.SymbolIndex.{is_address, has_address, addresses, sort_key, IsIndex, is_at_or_before, BeginsPast, IsLastSymbol, FindsLast, IsNearest, HasNoneBefore}
 
 -- a number with this test is the index of a symbol that has an address
 has_symbol : (symbols : List Symbol) (number : ℕ) → has_address symbols number ≡ true → (s : Symbol) × (slice_get symbols number ≡ Some s) × (is_address s.kind ≡ true)
@@ -86,10 +84,8 @@ module _ (symbols : List Symbol) (few : length symbols ≤ 2 ^ 32) (index : List
       let there : get_or index i 0 ≡ k = sym (get_or_default index i k 0 within) ∙ here in
       stays_past 0 i k other past (omega arith) within there at
 
--- the answer by the index is the nearest symbol
-pub finds : (symbols : List Symbol) (sections : ℕ) (index : List ℕ) (address status position : ℕ) (symbol : KesvuotSymbol) → length symbols ≤ 2 ^ 32 → IsFound symbols sections index address status symbol position → IsIndex symbols index
-    → ((status ≡ KESVUOT_OK) × (s : Symbol) × IsNearest symbols address (slice_index index position) s × (symbol ≡ symbol_row sections s)) ⊎ ((status ≡ KESVUOT_NONE) × HasNoneBefore symbols address)
-finds symbols sections index address status position symbol few found is = elim found [
-  | inl (ok, s, last, row) ↦ inl (ok, s, nearest symbols few index is address position s last, row)
-  | inr (none, past, row, zero_position) ↦ inr (none, none_before symbols few index is address past)
-]
+-- what is found by the index is the nearest symbol
+pub finds : (symbols : List Symbol) (index : List ℕ) (address : ℕ) (found : Option (ℕ × Symbol)) → length symbols ≤ 2 ^ 32 → FindsLast symbols index address found → IsIndex symbols index
+    → MatchOption found (HasNoneBefore symbols address) (λ last. IsNearest symbols address (slice_index index last.0) last.1)
+finds symbols index address None few past is = none_before symbols few index is address past
+finds symbols index address (Some last) few found is = nearest symbols few index is address last.0 last.1 found

@@ -100,7 +100,7 @@ module _ (file : List ℕ) (row : KesvuotImage) (shows : ShowsUnbroken file row)
       let second = bit_times 2 base in
       second_bit row.has _ (bit 1 base) _ _ _ _ (is ∙ sums (bit 1 _) second (bit_times 4 _) (bit_times 8 _) (bit_times 16 _) (bit_times 32 _)) (bit_few _) (bit_few base)
 
-  -- those of the data that is found
+  -- the functions of the data that is found
   abbrev starts_found : ℕ × ℕ → List ℕ
   starts_found found = function_starts (part_or_none found.0 found.1 image) row.base
 

@@ -27,7 +27,7 @@ abbrev pub blobs_from : List ℕ → ℕ → ℕ → List Blob
 blobs_from signature k least =
     if has_superblob signature then placed_blobs signature (blob_count signature - k) k least else []
 
--- what is found is the first of those from the entry k on, and none where there is none
+-- what is found is the first from the entry k on, and None without one
 abbrev pub IsFirstPlaced : List ℕ → ℕ → ℕ → Option Blob → Type 0
 IsFirstPlaced signature k least found =
     MatchOption found (blobs_from signature k least ≡ []) (λ blob.
@@ -58,8 +58,8 @@ blobs_at place image cursor =
 abbrev pub blobs_left : ℕ → List ℕ → KesvuotCursor → List KesvuotBlob
 blobs_left place image cursor = blobs_at place image (begun (first_blob image) cursor)
 
--- By the image alone: the blobs in place of the data of its command, all of which lies inside the image, and each
--- blob of the index where none is bad. There are none where it has no such command.
+-- By the image alone: the blobs in place of the data of its command, which all lies inside the image, and each
+-- blob of the index where none is bad. None without such a command.
 abbrev pub HasAllBlobs : ℕ → List ℕ → List KesvuotBlob → Type 0
 HasAllBlobs place image rows =
     MatchOption (only image loader.LC_CODE_SIGNATURE) (rows ≡ []) (λ command.

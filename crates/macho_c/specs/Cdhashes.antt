@@ -1,10 +1,11 @@
 -- The hash of a code directory. (kesvuot.h: struct kesvuot_cdhash)
-use Rattle.std.specs.Prelude.{◌≡◌, ℕ, List, length, replicate, MatchOption}
+use Rattle.std.specs.Prelude.{ℕ, List, length, replicate}
+use Rattle.std.specs.Option.{option_map}
 use Rattle.macho_sealed.specs.Cdhashes.{cdhash}
 use Rattle.macho_sealed.specs.Digests.{bytes_of_digest, type_of_digest}
 use Rattle.macho_sealed.specs.declared.digest.Digest.{Digest}
 use Rattle.macho_c.specs.Layout.{begun_with}
-use Rattle.macho_rows.specs.Status.{KESVUOT_OK, KESVUOT_NONE}
+use Rattle.macho_c.specs.Status.{Answers}
 use Rattle.macho_c.specs.declared.cdhash.KesvuotCdhash.{KesvuotCdhash}
 
 -- the row of a hash, which has 48 bytes at most: zeros are past its last
@@ -21,6 +22,4 @@ no_cdhash = record { digest = replicate 48 0; size = 0; hash_type = 0 }
 
 -- the answer on a blob
 abbrev pub IsAnswer : List ℕ → ℕ → KesvuotCdhash → Type 0
-IsAnswer blob status row =
-    MatchOption (cdhash blob) ((status ≡ KESVUOT_NONE) × (row ≡ no_cdhash))
-    (λ digest. (status ≡ KESVUOT_OK) × (row ≡ cdhash_row digest))
+IsAnswer blob status row = Answers no_cdhash status row (option_map cdhash_row (cdhash blob))

@@ -1,10 +1,11 @@
 -- The code directory that a blob of a code signature is. (cs_blobs.h: CS_CodeDirectory)
-use Rattle.std.specs.Prelude.{◌≡◌, ℕ, ◌+◌, ◌-◌, ◌*◌, ◌==◌, nat_le, List, drop, MatchOption, if◌then◌else◌}
+use Rattle.std.specs.Prelude.{ℕ, ◌+◌, ◌-◌, ◌*◌, ◌==◌, nat_le, List, drop, if◌then◌else◌}
+use Rattle.std.specs.Option.{option_map}
 use Rattle.macho_signature.specs.CodeDirectories.{code_directory}
 use Rattle.macho_signature.specs.declared.code_directory.CodeDirectory.{CodeDirectory}
 use Rattle.macho_rows.specs.Rows.{ended_string}
 use Rattle.macho_rows.specs.Spans.{part_or_none, span_at, span_of}
-use Rattle.macho_rows.specs.Status.{KESVUOT_OK, KESVUOT_NONE}
+use Rattle.macho_c.specs.Status.{Answers}
 use Rattle.macho_c.specs.declared.code_directory.KesvuotCodeDirectory.{KesvuotCodeDirectory}
 use Rattle.macho_rows.specs.declared.span.KesvuotSpan.{KesvuotSpan}
 
@@ -41,7 +42,7 @@ directory_row place blob directory = record {
   page_size = directory.page_size;
 }
 
--- of a blob that is none
+-- of a blob that is not a code directory
 abbrev pub no_directory : KesvuotCodeDirectory
 no_directory = record {
   identifier = span_at 0 0;
@@ -61,5 +62,4 @@ no_directory = record {
 -- the answer on a blob that begins at `place` in the file
 abbrev pub IsAnswer : ℕ → List ℕ → ℕ → KesvuotCodeDirectory → Type 0
 IsAnswer place blob status row =
-    MatchOption (code_directory blob) ((status ≡ KESVUOT_NONE) × (row ≡ no_directory))
-    (λ directory. (status ≡ KESVUOT_OK) × (row ≡ directory_row place blob directory))
+    Answers no_directory status row (option_map (directory_row place blob) (code_directory blob))

@@ -1,5 +1,5 @@
 -- What kesvuot_explain answers.
-use Rattle.std.specs.Prelude.{◌≡◌, ℕ, ◌-◌, ◌^◌, ◌⊎◌, List, Option, Some, None}
+use Rattle.std.specs.Prelude.{◌≡◌, ℕ, ◌-◌, ◌^◌, List, Option, Some, None, IfSome}
 use Rattle.macho_fields.specs.RuleList.{rule_number}
 use Rattle.macho_fields.specs.declared.rule.Rule.{Rule}
 use Rattle.macho_c.specs.declared.explain.KesvuotExplanation.{KesvuotExplanation}
@@ -9,7 +9,7 @@ use Rattle.macho_explain.specs.declared.explanation.Explanation.{Explanation}
 use Rattle.macho_explain.specs.declared.part.Part.{Part}
 use Rattle.macho_explain.specs.declared.part.PartKind.{PartKind}
 use Rattle.macho_explain.specs.declared.part.PartKind.TheVariants as kind
-use Rattle.macho_rows.specs.Status.{KESVUOT_OK, KESVUOT_NONE}
+use Rattle.macho_c.specs.Status.{Answers, Tells}
 
 -- KESVUOT_PART_FILE and so on
 abbrev pub part_number : PartKind → ℕ
@@ -101,10 +101,13 @@ nothing_in_c = record {
   symbol = 2 ^ 32 - 1;
 }
 
+-- this explains the rule with a number, at a place
+abbrev pub IsExplanation : List ℕ → ℕ → ℕ → KesvuotExplanation → Type 0
+IsExplanation file number place e =
+    (r : Rule) × (found : Explanation) × (rule_number r ≡ number) × IsExplained r file place found
+    × (e ≡ explanation_in_c found)
+
 -- The answer on the number of a rule, and a place.
 abbrev pub IsAnswer : List ℕ → ℕ → ℕ → ℕ → KesvuotExplanation → Type 0
 IsAnswer file number place status e =
-    ((status ≡ KESVUOT_NONE) × (e ≡ nothing_in_c))
-    ⊎ ((status ≡ KESVUOT_OK)
-    × (r : Rule) × (found : Explanation) × (rule_number r ≡ number) × IsExplained r file place found
-    × (e ≡ explanation_in_c found))
+    Tells (λ found. IfSome found (IsExplanation file number place)) (Answers nothing_in_c status e)

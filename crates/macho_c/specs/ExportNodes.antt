@@ -10,7 +10,7 @@ use Rattle.macho_exports.specs.declared.export_trie.ExportNode.{ExportNode}
 use Rattle.macho_rows.specs.Cursor.{start}
 use Rattle.macho_c.specs.Exports.{no_export, export_row}
 use Rattle.macho_rows.specs.Spans.{part_or_none, span_at, span_of}
-use Rattle.macho_rows.specs.Status.{KESVUOT_OK, KESVUOT_NONE}
+use Rattle.macho_c.specs.Status.{KESVUOT_OK, KESVUOT_NONE}
 use Rattle.macho_rows.specs.declared.cursor.KesvuotCursor.{KesvuotCursor}
 use Rattle.macho_c.specs.declared.export_nodes.KesvuotExportEdge.{KesvuotExportEdge}
 use Rattle.macho_c.specs.declared.export_nodes.KesvuotExportNode.{KesvuotExportNode}

@@ -1,6 +1,6 @@
 -- The names that an image exports. (mach-o/loader.h: LC_DYLD_EXPORTS_TRIE, dyld_info_command,
 -- EXPORT_SYMBOL_FLAGS_..)
-use Rattle.std.specs.Prelude.{◌≡◌, ℕ, ◌+◌, ◌%◌, ◌^◌, ◌==◌, ◌≤◌, List, length, Option, IfSome, MatchOption, bit_and, if◌then◌else◌}
+use Rattle.std.specs.Prelude.{◌≡◌, ℕ, ◌+◌, ◌%◌, ◌^◌, ◌==◌, ◌≤◌, List, length, Option, IfSome, bit_and, if◌then◌else◌}
 use Rattle.std.specs.Option.{option_map, option_map_or, option_and_then, unwrap_or}
 use Rattle.macho_fields.specs.Field.{part}
 use Rattle.macho_fields.specs.Image.{commands_of}
@@ -14,7 +14,7 @@ use Rattle.macho_exports.specs.declared.export_trie.Target.{Target}
 use Rattle.macho_exports.specs.declared.export_trie.Target.TheVariants as target
 use Rattle.macho_c.specs.ExportTrie.{IsTrie}
 use Rattle.macho_rows.specs.Spans.{part_or_none, span_at, span_of}
-use Rattle.macho_rows.specs.Status.{KESVUOT_OK, KESVUOT_NONE}
+use Rattle.macho_c.specs.Status.{Answers, Tells}
 use Rattle.macho_c.specs.declared.exports.KesvuotExport.{KesvuotExport}
 use Rattle.macho_rows.specs.declared.image.KesvuotImage.{KesvuotImage}
 
@@ -52,21 +52,15 @@ abbrev pub IsExported : ℕ → ℕ → List ℕ → List ℕ → Option Kesvuot
 IsExported base place image name found =
     (trie : Option Span) × IsTrie image trie × (found ≡ exported base place image trie name)
 
--- the answer that this is the export
-abbrev pub IsAnswer : Option KesvuotExport → ℕ → KesvuotExport → Type 0
-IsAnswer found status export =
-    MatchOption found ((status ≡ KESVUOT_NONE) × (export ≡ no_export))
-    (λ row. (status ≡ KESVUOT_OK) × (export ≡ row))
-
 -- the answer on a name, by the struct of the image
 abbrev pub IsExport : List ℕ → KesvuotImage → List ℕ → ℕ → KesvuotExport → Type 0
 IsExport image row name status export =
-    (found : Option KesvuotExport) × IsExported row.base row.slice.offset image name found
-    × IsAnswer found status export
+    Tells (IsExported row.base row.slice.offset image name) (Answers no_export status export)
 
 -- The answer by the image alone, which breaks no rule and begins at `place` in the file: what the look-up in its
--- trie finds, all of which is inside the image, with addresses from its base.
+-- trie finds, which is all inside the image, with addresses from its base.
 abbrev pub FindsExport : List ℕ → ℕ → List ℕ → ℕ → KesvuotExport → Type 0
 FindsExport image place name status export =
     IfSome (export_table image) (λ table. end_of table ≤ length image)
-    × IsAnswer (exported (unwrap_or (base_of image (commands_of image)) 0) place image (export_table image) name) status export
+    × Answers no_export status export
+    (exported (unwrap_or (base_of image (commands_of image)) 0) place image (export_table image) name)

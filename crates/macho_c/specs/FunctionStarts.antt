@@ -29,8 +29,8 @@ starts_at image cursor = function_starts (part_or_none cursor.place cursor.items
 abbrev pub starts_left : List ℕ → KesvuotImage → KesvuotCursor → List ℕ
 starts_left image row cursor = starts_at image (begun (first_start image row) cursor)
 
--- By the image alone: all functions that the data of its command has, all of which lies inside the image.
--- There are none where it has no base, or no such command.
+-- By the image alone: all functions that the data of its command has, which all lies inside the image.
+-- None where it has no base, or no such command.
 abbrev pub HasAllStarts : List ℕ → List ℕ → Type 0
 HasAllStarts image starts =
     MatchOption (base_of image (commands_of image)) (starts ≡ []) (λ base.

@@ -6,7 +6,7 @@ use Rattle.macho_report.specs.Layout.{layout_text}
 use Rattle.macho_rules.specs.Verdict.{FileTakesMemory}
 use Rattle.macho_rules.specs.declared.refusal.Refusal.{Refusal}
 use Rattle.macho_rules.specs.declared.refusal.Refusal.TheVariants as refusal
-use Rattle.macho_rows.specs.Status.{KESVUOT_OK, KESVUOT_REFUSED, KESVUOT_NO_MEMORY}
+use Rattle.macho_c.specs.Status.{KESVUOT_OK, KESVUOT_REFUSED, KESVUOT_NO_MEMORY}
 
 -- The buffer was `old`: it now begins with the first bytes of the text, as many as it has room for,
 -- and its other bytes are as they were.

@@ -7,10 +7,13 @@ pub mod ExportNodes
 pub mod ExportTrie
 pub mod Exports
 pub mod FunctionStarts
+pub mod Images
 pub mod Layout
 pub mod Names
 pub mod Relocations
 pub mod RuleNumbers
 pub mod SourceVersion
+pub mod Status
+pub mod Tables
 pub mod Threads
 pub mod Verdict

@@ -3,7 +3,7 @@ use Rattle.std.specs.Prelude.{◌≡◌, ℕ, ◌+◌, ◌-◌, ◌*◌, ◌^◌
 use Rattle.std.specs.Option.{option_map}
 use Rattle.macho_fields.specs.Universal.{masked}
 use Rattle.macho_c.specs.declared.names.Named.{Named}
-use Rattle.macho_rows.specs.Status.{KESVUOT_OK, KESVUOT_NONE}
+use Rattle.macho_c.specs.Status.{KESVUOT_OK, KESVUOT_NONE}
 
 -- the name that a table has for a number, and a zero byte
 abbrev pub name_in : List (ℕ × List ℕ) → ℕ → Option (List ℕ)
@@ -129,7 +129,7 @@ abbrev pub HasArchName : List ℕ → ℕ → ℕ → Type 0
 HasArchName name cputype cpusubtype =
     IsName arch_names (arch_number cputype (masked cpusubtype)) KESVUOT_OK name
 
--- The answer on a name: the numbers of the architecture that has it, of which there is one, or of none. The
+-- The answer on a name: the numbers of the one architecture that has it, or of none. The
 -- second number has no capability byte.
 abbrev pub IsArchNamed : List ℕ → ℕ → ℕ → ℕ → Type 0
 IsArchNamed name status cputype cpusubtype =

@@ -24,7 +24,7 @@ relocation_row image relocation =
       scattered = word image relocation / 2 ^ 31;
     }
 
--- those of the table, in its order, and none where it does not lie inside the image
+-- the rows of the table, in its order, and none where it does not lie inside the image
 abbrev pub relocation_rows : List ℕ → ℕ → ℕ → List KesvuotRelocation
 relocation_rows image reloff nreloc =
     map (relocation_row image) (items_inside image reloff reloc.RELOCATION_INFO_SIZE nreloc)
@@ -33,7 +33,7 @@ relocation_rows image reloff nreloc =
 abbrev pub relocations_left : List ℕ → ℕ → ℕ → KesvuotCursor → List KesvuotRelocation
 relocations_left image reloff nreloc cursor = drop cursor.items (relocation_rows image reloff nreloc)
 
--- Where reloff and nreloc are those of a section, there are nreloc rows: none is left out because its table
+-- Where reloff and nreloc are a section's, there are nreloc rows: none is left out because its table
 -- does not lie inside the image.
 abbrev pub HasAllRelocations : List ℕ → ℕ → ℕ → List KesvuotRelocation → Type 0
 HasAllRelocations image reloff nreloc rows =

@@ -2,7 +2,7 @@
 use Rattle.std.specs.Prelude.{◌≡◌, ℕ, ◌+◌, List, MatchOption}
 use Rattle.macho_fields.specs.Image.{long}
 use Rattle.macho_rows.specs.Loads.{first_wanted}
-use Rattle.macho_rows.specs.Status.{KESVUOT_OK, KESVUOT_NONE}
+use Rattle.macho_c.specs.Status.{KESVUOT_OK, KESVUOT_NONE}
 use Rattle.macho_rows.specs.declared.load.Wanted.TheVariants as wanted
 
 -- the answer: the version at 8 of the first LC_SOURCE_VERSION of at least 16 bytes

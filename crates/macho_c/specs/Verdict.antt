@@ -6,7 +6,7 @@ use Rattle.macho_fields.specs.declared.rule.Break.{Break}
 use Rattle.macho_fields.specs.declared.rule.Profile.{Profile}
 use Rattle.macho_profiles.specs.Profiles.{IsAcceptedBy, IsRefusedBy}
 use Rattle.macho_rules.specs.declared.refusal.Refusal.TheVariants as refusal
-use Rattle.macho_rows.specs.Status.{KESVUOT_OK, KESVUOT_REFUSED, KESVUOT_NO_MEMORY}
+use Rattle.macho_c.specs.Status.{KESVUOT_OK, KESVUOT_REFUSED, KESVUOT_NO_MEMORY}
 use Rattle.macho_c.specs.declared.verdict.KesvuotVerdict.{KesvuotVerdict}
 
 -- the numbers of a verdict
@@ -18,7 +18,7 @@ Has v rule place slices =
 abbrev pub IsAccepted : Profile → List ℕ → KesvuotVerdict → Type 0
 IsAccepted profile file v = IsAcceptedBy profile file × Has v 0 0 (length (slices_of file))
 
--- The verdict has the first broken rule of the file, of those of the profiles up to this one.
+-- The verdict has the first broken rule of the file, among the rules of the profiles up to this one.
 abbrev pub IsRefused : Profile → List ℕ → KesvuotVerdict → Type 0
 IsRefused profile file v =
     (b : Break) × IsRefusedBy profile file (refusal.Broken b) × Has v (rule_number b.rule) b.place 0

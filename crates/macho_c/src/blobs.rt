@@ -29,7 +29,7 @@ pub struct KesvuotBlob {
 }
 
 /// Writes the blobs of the code signature from the cursor on to the rows of the table, until either runs out, moves
-/// the cursor past them, and returns how many it wrote. Later rows are unchanged. They are those of the first
+/// the cursor past them, and returns how many it wrote. Later rows are unchanged. They are from the first
 /// `LC_CODE_SIGNATURE`, in the order of its index, up to the first that is not past the index and the blob before it,
 /// or does not end in the superblob. Only the first batch looks for the command.
 #[unsafe(no_mangle)]

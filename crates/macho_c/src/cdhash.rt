@@ -6,9 +6,9 @@ ghost use Rattle.macho_rows.specs.Spans.{part_or_none};
 
 use crate::blobs::KesvuotBlob;
 use crate::layout::write_front;
+use crate::status::answer;
 use macho_fields::{Bytes, Span};
 use macho_rows::parts::part_or_none;
-use macho_rows::status::{NONE, OK};
 use macho_sealed::{Digest, cdhash_of};
 
 // The size in bytes of the longest hash, which is by SHA-384.
@@ -27,7 +27,7 @@ pub struct KesvuotCdhash {
 }
 
 /// Writes the hash of a blob, whole, if it is a code directory: by the type of the hashes in it. The status is `OK`, or
-/// `NONE` if it is none, or the type is not known, and then all fields are 0.
+/// `NONE` if it is not, or the type is not known, and then all fields are 0.
 #[unsafe(no_mangle)]
 pub extern "C" fn kesvuot_read_cdhash(
     file: &[u8],
@@ -40,16 +40,8 @@ pub extern "C" fn kesvuot_read_cdhash(
         start: blob.bytes.offset,
         len: blob.bytes.size,
     };
-    match cdhash_of(part_or_none(Bytes::new(file), bytes)) {
-        Some(digest) => {
-            *cdhash = row_of(&digest);
-            OK
-        }
-        None => {
-            *cdhash = NO_CDHASH;
-            NONE
-        }
-    }
+    let found = cdhash_of(part_or_none(Bytes::new(file), bytes)).map(|digest| row_of(&digest));
+    answer(found, NO_CDHASH, cdhash)
 }
 
 // What is written of a blob without a hash.

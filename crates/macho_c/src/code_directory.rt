@@ -1,28 +1,30 @@
 //! The code directory that a blob of a code signature is. (`cs_blobs.h`: `CS_CodeDirectory`)
 
 ghost use Rattle.std.specs.Prelude.{◌≡◌, ◌*◌};
+ghost use Rattle.std.specs.Option.{option_map};
 ghost use Rattle.macho_fields.specs.Bytes.{bytes_of};
 ghost use Rattle.macho_c.specs.CodeDirectories.{name_span, special_hashes as special_hashes_of, directory_row, IsAnswer};
 ghost use Rattle.macho_rows.specs.Spans.{part_or_none};
+ghost use Rattle.macho_signature.specs.CodeDirectories.{code_directory};
 
 use crate::blobs::KesvuotBlob;
+use crate::status::answer;
 use macho_fields::Span;
 use macho_rows::parts::{ended_string, rest};
 use macho_rows::span::{Held, KesvuotSpan, NO_SPAN, held_at};
-use macho_rows::status::{NONE, OK};
 use macho_signature::CodeDirectory;
 
 /// A code directory. (`CS_CodeDirectory`)
 #[repr(C)]
 #[derive(Clone, Copy)]
 pub struct KesvuotCodeDirectory {
-    /// Where the identifier lies in the file, without the zero byte past it: nowhere if there is none.
+    /// Where the identifier lies in the file, without the zero byte past it: nowhere without one.
     pub identifier: KesvuotSpan,
     /// Where the team lies, as the identifier does.
     pub team: KesvuotSpan,
     /// Where the hashes of the code lie, one for each page: nowhere if they are not all in the blob.
     pub hashes: KesvuotSpan,
-    /// Where the special hashes lie, that of the first special slot last: nowhere if they are not all in the blob.
+    /// Where the special hashes lie, the first special slot's last: nowhere if they are not all in the blob.
     pub special_hashes: KesvuotSpan,
     /// How many bytes of the image the hashes of the code are of.
     pub limit: u64,
@@ -39,7 +41,7 @@ pub struct KesvuotCodeDirectory {
     pub page_size: u16,
 }
 
-/// Writes what a blob says, if it is a code directory. The status is `OK`, or `NONE` if it is none, and then all
+/// Writes what a blob says, if it is a code directory. The status is `OK`, or `NONE` if it is not, and then all
 /// numbers are 0.
 #[unsafe(no_mangle)]
 pub extern "C" fn kesvuot_read_code_directory(
@@ -51,19 +53,19 @@ pub extern "C" fn kesvuot_read_code_directory(
         (part_or_none blob.now.bytes.offset blob.now.bytes.size file.now) result directory.new }
 {
     let held = held_at(file, blob.bytes.offset, blob.bytes.size);
-    match CodeDirectory::read(held.bytes) {
-        Some(found) => {
-            *directory = row_of(&held, found);
-            OK
-        }
-        None => {
-            *directory = NO_DIRECTORY;
-            NONE
-        }
-    }
+    answer(directory_of(&held), NO_DIRECTORY, directory)
 }
 
-// What is written of a blob that is no code directory.
+// What a blob says, if it is a code directory.
+fn directory_of(blob: &Held) -> Option<KesvuotCodeDirectory>
+    ensures { result ≡ option_map (directory_row blob.now.place (bytes_of blob.now.bytes))
+        (code_directory (bytes_of blob.now.bytes)) }
+{
+    let found = CodeDirectory::read(blob.bytes)?;
+    Some(row_of(blob, found))
+}
+
+// What is written of a blob that is not a code directory.
 const NO_DIRECTORY: KesvuotCodeDirectory = KesvuotCodeDirectory {
     identifier: NO_SPAN,
     team: NO_SPAN,

@@ -1,14 +1,13 @@
 //! Why a file is refused: what is at the place of the verdict, and which parts and numbers conflict there.
 
 ghost use Rattle.std.specs.Prelude.{◌≡◌, IfSome};
-ghost use Rattle.macho_c.specs.Explained.{IsAnswer, explanation_in_c, index_in_c, part_in_c, part_number, some_part_in_c};
-ghost use Rattle.macho_rows.specs.Status.{KESVUOT_OK};
+ghost use Rattle.macho_c.specs.Explained.{IsAnswer, IsExplanation, explanation_in_c, index_in_c, part_in_c, part_number, some_part_in_c};
 
+use crate::status::answer;
 use crate::verdict::KesvuotVerdict;
 use macho_explain::explanation::{Explanation, explain};
 use macho_explain::part::{Part, PartKind};
 use macho_fields::Rule;
-use macho_rows::status::{NONE, OK};
 
 /// A part of a file. (`struct kesvuot_part`)
 #[repr(C)]
@@ -80,21 +79,12 @@ pub extern "C" fn kesvuot_explain(
 ) -> u32
     ensures { IsAnswer file.now verdict.now.rule verdict.now.place result explanation.new }
 {
-    match explained(file, verdict) {
-        Some(found) => {
-            *explanation = found;
-            OK
-        }
-        None => {
-            *explanation = NOTHING;
-            NONE
-        }
-    }
+    answer(explained(file, verdict), NOTHING, explanation)
 }
 
 // What explains the verdict.
 fn explained(file: &[u8], verdict: &KesvuotVerdict) -> Option<KesvuotExplanation>
-    ensures { IfSome result (IsAnswer file.now verdict.now.rule verdict.now.place KESVUOT_OK) }
+    ensures { IfSome result (IsExplanation file.now verdict.now.rule verdict.now.place) }
 {
     let rule = Rule::with_number(verdict.rule)?;
     let found = explain(file, rule, verdict.place)?;

@@ -9,12 +9,12 @@ ghost use Rattle.macho_rows.specs.Cursor.{IsBatch};
 ghost use Rattle.macho_c.specs.ExportNodes.{trie_bytes, terminal_export, node_row, edge_row, edges_left, IsNode};
 
 use crate::exports::{KesvuotExport, NO_EXPORT, row_of};
+use crate::status::{NONE, OK};
 use macho_exports::export_trie::{Export, ExportEdge, ExportNode};
 use macho_fields::Span;
 use macho_rows::cursor::{KesvuotCursor, START};
 use macho_rows::image::KesvuotImage;
 use macho_rows::span::{Held, KesvuotSpan, NO_SPAN, held_at};
-use macho_rows::status::{NONE, OK};
 use macho_rows::table::{Table, fill};
 
 /// A node of an export trie. (`struct kesvuot_export_node`)
@@ -73,7 +73,7 @@ pub extern "C" fn kesvuot_read_export_node(
 
 /// Writes the edges of a node of an export trie from the cursor on to the rows of the table, until either runs
 /// out, moves the cursor past them, and returns how many it wrote. Later rows are unchanged. The cursor of the
-/// first edge is that of the node. The first edge that does not end in the trie is none, and ends them.
+/// first edge is the node's `edges`. The first edge that does not end in the trie is not written, and ends them.
 #[unsafe(no_mangle)]
 pub extern "C" fn kesvuot_read_export_edges(
     file: &[u8],
@@ -123,7 +123,7 @@ fn node_of(base: u64, trie: &Held, head: ExportNode) -> KesvuotExportNode
     }
 }
 
-// The export in a terminal part. It is `None` if the part is empty, or is no export.
+// The export in a terminal part. It is `None` if the part is empty, or is not an export.
 fn export_of(trie: &Held, terminal: Span) -> Option<Export>
     requires { end_of terminal ≤ length (bytes_of trie.now.bytes) }
     ensures { result ≡ terminal_export (bytes_of trie.now.bytes) terminal }

@@ -9,11 +9,11 @@ ghost use Rattle.macho_exports.specs.Exports.{export_table as export_table_of};
 ghost use Rattle.macho_c.specs.ExportTrie.{IsTrie, IsTrieAnswer, IsWholeTrie};
 ghost use Rattle.macho_rows.specs.Image.{image_in, ShowsUnbroken};
 
+use crate::status::{NONE, OK};
 use macho_exports::exports::export_table;
 use macho_fields::Span;
 use macho_rows::image::KesvuotImage;
 use macho_rows::span::{Held, KesvuotSpan, NO_SPAN};
-use macho_rows::status::{NONE, OK};
 
 /// Writes where the export trie of an image lies in the file: the table that the linked profile judges. The
 /// status is `OK`, or `NONE` if the image has none.

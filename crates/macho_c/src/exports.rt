@@ -13,6 +13,7 @@ ghost use Rattle.macho_c.specs.Exports.{from_base, address_of as address_of_of, 
 ghost use Rattle.macho_rows.specs.Image.{image_in, ShowsUnbroken};
 
 use crate::export_trie::export_trie;
+use crate::status::answer;
 use macho_exports::export_trie::{Export, Target, find_export};
 use macho_fields::Span;
 use macho_fields::header::loader::{
@@ -20,7 +21,6 @@ use macho_fields::header::loader::{
 };
 use macho_rows::image::KesvuotImage;
 use macho_rows::span::{Held, KesvuotSpan, NO_SPAN};
-use macho_rows::status::{NONE, OK};
 
 /// What a name is exported as. (`struct kesvuot_export`)
 #[repr(C)]
@@ -28,7 +28,7 @@ use macho_rows::status::{NONE, OK};
 pub struct KesvuotExport {
     /// The flags, as the trie has them.
     pub flags: u64,
-    /// The address of the symbol, which is that of a stub if there is a resolver. It is 0 of a re-export.
+    /// The address of the symbol, which is a stub's if it has a resolver. It is 0 of a re-export.
     pub address: u64,
     /// The address of the function that finds the address of the symbol, otherwise 0.
     pub resolver: u64,
@@ -40,7 +40,7 @@ pub struct KesvuotExport {
     pub reserved: u64,
 }
 
-/// Looks up the export with this name, and writes it. The status is `OK`, or `NONE` if there is none. It takes
+/// Looks up the export with this name, and writes it. The status is `OK`, or `NONE` without one. It takes
 /// at most as many steps as the trie and the name have bytes.
 #[unsafe(no_mangle)]
 pub extern "C" fn kesvuot_find_export(
@@ -53,16 +53,8 @@ pub extern "C" fn kesvuot_find_export(
     ensures all { ShowsUnbroken file.now image.now
         → FindsExport (image_in file.now image.now) image.now.slice.offset name.now result export.new }
 {
-    match export_named(&image.held(file), image.base, name) {
-        Some(found) => {
-            *export = found;
-            OK
-        }
-        None => {
-            *export = NO_EXPORT;
-            NONE
-        }
-    }
+    let found = export_named(&image.held(file), image.base, name);
+    answer(found, NO_EXPORT, export)
 }
 
 // The export with the name, of an image with this base.

@@ -16,7 +16,7 @@ use macho_rows::table::{Table, fill};
 use macho_tables::function_starts::next_start;
 
 /// Writes the addresses of functions from the cursor on to the rows of the table, until either runs out,
-/// moves the cursor past them, and returns how many it wrote. Later rows are unchanged. They are those of the
+/// moves the cursor past them, and returns how many it wrote. Later rows are unchanged. They are from the
 /// first `LC_FUNCTION_STARTS`: none if the image has no base. Only the first batch looks for the command.
 #[unsafe(no_mangle)]
 pub extern "C" fn kesvuot_read_function_starts(

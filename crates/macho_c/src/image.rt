@@ -2,16 +2,17 @@
 
 ghost use Rattle.std.specs.Prelude.{◌≡◌};
 ghost use Rattle.macho_fields.specs.First.{IsUnbroken};
-ghost use Rattle.macho_rows.specs.Image.{IsAnswer, ShowsUnbroken};
-ghost use Rattle.macho_rows.specs.Status.{KESVUOT_OK};
+ghost use Rattle.macho_rows.specs.Image.{ShowsUnbroken};
+ghost use Rattle.macho_c.specs.Images.{IsAnswer};
+ghost use Rattle.macho_c.specs.Status.{KESVUOT_OK};
 
+use crate::status::{NONE, OK, REFUSED, UNREAD};
 use macho_fat::slice_at;
 use macho_fields::Bytes;
-use macho_rows::image::{KesvuotImage, no_image, read_slice};
-use macho_rows::status::{NONE, REFUSED};
+use macho_rows::image::{KesvuotImage, SliceImage, no_image, read_slice};
 
 /// Reads the image of the slice with this index, in a file that is accepted. The status is `OK`;
-/// `UNREAD` if the image is of 32 bits or big-endian; `NONE` if there is no such slice; or
+/// `UNREAD` if the image is of 32 bits or big-endian; `NONE` if no slice has the index; or
 /// `REFUSED` if no accepted file has these bytes.
 #[unsafe(no_mangle)]
 pub extern "C" fn kesvuot_read_image(file: &[u8], slice: u64, image: &mut KesvuotImage) -> u32
@@ -21,7 +22,17 @@ pub extern "C" fn kesvuot_read_image(file: &[u8], slice: u64, image: &mut Kesvuo
     *image = no_image();
     let bytes = Bytes::new(file);
     match slice_at(bytes, slice) {
-        Ok(Some(slice)) => read_slice(bytes, &slice, image),
+        Ok(Some(slice)) => match read_slice(bytes, &slice) {
+            Some(SliceImage::Read(shown)) => {
+                *image = shown;
+                OK
+            }
+            Some(SliceImage::Unread(shown)) => {
+                *image = shown;
+                UNREAD
+            }
+            None => REFUSED,
+        },
         Ok(None) => NONE,
         Err(_) => REFUSED,
     }

@@ -5,14 +5,14 @@ ghost use Rattle.macho_fields.specs.First.{IsUnbroken};
 ghost use Rattle.macho_report.specs.Layout.{layout_text};
 ghost use Rattle.macho_c.specs.Layout.{IsLayout, IsLayoutRefusal, begun_with};
 
+use crate::status::{NO_MEMORY, OK, REFUSED};
 use macho_report::{Failed, Output, write_layout};
-use macho_rows::status::{NO_MEMORY, OK, REFUSED};
 use macho_rules::{Refusal, verify};
 use std::alloc::Global;
 
 /// Decides the rules of a file, and writes the layout of an accepted one to the buffer as text: its first
 /// bytes, as many as there is room for, with no zero byte after them. `needed` is how many bytes the
-/// whole text has. The status is that of `kesvuot_verify`. If it is not `OK`, `needed` is 0 and the
+/// whole text has. The status is as of `kesvuot_verify`. If it is not `OK`, `needed` is 0 and the
 /// buffer is unchanged.
 #[unsafe(no_mangle)]
 pub extern "C" fn kesvuot_layout(
@@ -59,7 +59,7 @@ pub(crate) fn write_front(bytes: &[u8], buffer: &mut [u8])
     buffer[..count].copy_from_slice(&bytes[..count]);
 }
 
-// A text in memory as an output. A write fails where there is no memory.
+// A text in memory as an output. A write fails where memory runs out.
 #[derive(Drop)]
 struct Text {
     bytes: Vec<u8>,

@@ -22,6 +22,7 @@ mod names;
 mod relocations;
 mod rule;
 mod source_version;
+mod status;
 mod symbol_index;
 mod symbol_names;
 mod symbols;

@@ -7,8 +7,8 @@ ghost use Rattle.macho_fields.specs.Universal.{masked};
 ghost use Rattle.macho_c.specs.Names.{IsName, IsFound, name_in, command_names, platform_names};
 ghost use Rattle.macho_c.specs.Names.{arch_names, arch_number, number_in, is_named, IsArchNamed};
 
+use crate::status::{NONE, OK};
 use macho_fields::header::machine::CPU_SUBTYPE_MASK;
-use macho_rows::status::{NONE, OK};
 
 /// Writes the name of the load commands with this `cmd`, borrowed from the library. A zero byte, which is
 /// not counted, follows it in memory. The status is `OK`, or `NONE` where the command has no name here.
@@ -28,7 +28,7 @@ pub extern "C" fn kesvuot_find_command(cmd: u32, name: &mut &'static [u8]) -> u3
     }
 }
 
-/// Writes the name of a platform, as `kesvuot_find_command` does that of a command.
+/// Writes the name of a platform, as `kesvuot_find_command` writes a command's.
 #[unsafe(no_mangle)]
 pub extern "C" fn kesvuot_find_platform(platform: u32, name: &mut &'static [u8]) -> u32
     ensures { IsName platform_names platform result name.new.now }
@@ -45,7 +45,7 @@ pub extern "C" fn kesvuot_find_platform(platform: u32, name: &mut &'static [u8])
     }
 }
 
-/// Writes the name of an architecture, as `kesvuot_find_command` does that of a command. The capability
+/// Writes the name of an architecture, as `kesvuot_find_command` writes a command's. The capability
 /// byte of the `cpusubtype` does not matter.
 #[unsafe(no_mangle)]
 pub extern "C" fn kesvuot_find_arch(cputype: u32, cpusubtype: u32, name: &mut &'static [u8]) -> u32

@@ -3,10 +3,10 @@
 ghost use Rattle.std.specs.Prelude.{◌≡◌, ◌<◌, ◌-◌, ◌⊎◌, [], length, take, IfNone, IfSome};
 ghost use Rattle.macho_fields.specs.RuleList.{profile_name, profile_numbered};
 ghost use Rattle.macho_c.specs.RuleNumbers.{IsNumbered, IsNoNumber, IsProfileOf};
-ghost use Rattle.macho_rows.specs.Status.{KESVUOT_OK, KESVUOT_NONE};
+ghost use Rattle.macho_c.specs.Status.{KESVUOT_OK, KESVUOT_NONE};
 
+use crate::status::{NONE, OK};
 use macho_fields::{Profile, Rule};
-use macho_rows::status::{NONE, OK};
 
 /// Writes the name of the rule with this number, borrowed from the library. A zero byte, which is not
 /// counted, follows it in memory. The status is `OK`, or `NONE` where no rule has the number.

@@ -9,10 +9,10 @@ ghost use Rattle.macho_rows.specs.Rows.{HasUnbrokenHeaders};
 ghost use Rattle.macho_c.specs.SourceVersion.{IsAnswer};
 ghost use Rattle.macho_rows.specs.declared.load.Wanted.TheVariants.{SourceVersions};
 
+use crate::status::{NONE, OK};
 use macho_fields::Order;
 use macho_rows::image::KesvuotImage;
 use macho_rows::load::{Wanted, first_wanted};
-use macho_rows::status::{NONE, OK};
 
 /// Writes the version of the sources, by the first `LC_SOURCE_VERSION` that holds its structure. The
 /// status is `OK`, or `NONE` if the image has none. (`source_version_command`)

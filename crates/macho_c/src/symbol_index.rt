@@ -1,17 +1,20 @@
-//! Symbols by address: an index of those that have one, and a search in it. (`mach-o/nlist.h`: `nlist_64`)
+//! Symbols by address: an index of the symbols with an address, and a search in it. (`mach-o/nlist.h`: `nlist_64`)
 
+ghost use Rattle.macho_fields.specs.Image.{commands_of};
+ghost use Rattle.macho_fields.specs.Segment.{section_count};
 ghost use Rattle.macho_rows.specs.Image.{image_in, ShowsUnbroken};
 ghost use Rattle.macho_rows.specs.SymbolIndex.{symbols_shown, symbols_seen, IsIndexed};
-ghost use Rattle.macho_rows.specs.SymbolIndex.{IsFound, FindsNearest};
+ghost use Rattle.macho_rows.specs.SymbolIndex.{FindsLast, FindsNearest};
+ghost use Rattle.macho_c.specs.Status.{AnswersSymbol, Tells};
 
+use crate::status::{NONE, OK};
 use macho_rows::image::KesvuotImage;
-use macho_rows::status::{NONE, OK};
 use macho_rows::symbol_index::{count_addresses, last_at_or_before, write_index};
 use macho_rows::symbols::{KesvuotSymbol, NO_SYMBOL, SymbolTable, row_of};
 
 /// Writes the indices of the symbols whose value is an address, by ascending values, and of one value by
-/// ascending indices. These are the symbols of a section that are no debugging entries. Returns how many
-/// they are. If there is no room for all, the index is unchanged.
+/// ascending indices. These are the symbols of a section that are not debugging entries. Returns how many
+/// they are. Without room for all, the index is unchanged.
 #[unsafe(no_mangle)]
 pub extern "C" fn kesvuot_index_symbols(
     file: &[u8],
@@ -32,7 +35,7 @@ pub extern "C" fn kesvuot_index_symbols(
 }
 
 /// Finds the last entry of an index whose symbol begins at or before the address, by binary search, and
-/// writes the symbol and the position of the entry. The status is `OK`, or `NONE` if there is none. Of
+/// writes the symbol and the position of the entry. The status is `OK`, or `NONE` without one. Of
 /// an index that is not as `kesvuot_index_symbols` wrote it, it finds some entry whose symbol begins at or
 /// before the address, and the one after it does not.
 #[unsafe(no_mangle)]
@@ -44,10 +47,12 @@ pub extern "C" fn kesvuot_find_symbol(
     symbol: &mut KesvuotSymbol,
     position: &mut usize,
 ) -> u32
-    ensures answer { IsFound (symbols_shown (image_in file.now image.now) image.now)
-        image.now.section_count index.now address result symbol.new position.new }
+    ensures answer { Tells (FindsLast (symbols_shown (image_in file.now image.now) image.now) index.now address)
+        (AnswersSymbol image.now.section_count result position.new symbol.new) }
     ensures all { ShowsUnbroken file.now image.now
-        → FindsNearest (image_in file.now image.now) index.now address result symbol.new position.new }
+        → Tells (FindsNearest (image_in file.now image.now) index.now address)
+        (AnswersSymbol (section_count (image_in file.now image.now) (commands_of (image_in file.now image.now))) result
+        position.new symbol.new) }
 {
     *symbol = NO_SYMBOL;
     *position = 0;

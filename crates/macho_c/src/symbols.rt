@@ -3,12 +3,14 @@
 ghost use Rattle.macho_rows.specs.Cursor.{start, IsBatch};
 ghost use Rattle.macho_rows.specs.Image.{image_in, ShowsUnbroken};
 ghost use Rattle.macho_rows.specs.Symbols.{symbols_left, HasAllSymbols};
-ghost use Rattle.macho_rows.specs.Symbols.{IsName, NamesSymbols, AreNames, NamesEach};
+ghost use Rattle.macho_rows.specs.Symbols.{name_span, NamesSymbols, AreNames, NamesEach};
+ghost use Rattle.macho_rows.specs.Spans.{span_at};
+ghost use Rattle.macho_c.specs.Status.{Answers, Tells};
 
+use crate::status::answer;
 use macho_rows::cursor::KesvuotCursor;
 use macho_rows::image::KesvuotImage;
 use macho_rows::span::{KesvuotSpan, NO_SPAN};
-use macho_rows::status::{NONE, OK};
 use macho_rows::symbols::{KesvuotSymbol, SymbolTable, name_span, strings, write_names};
 use macho_rows::table::fill;
 
@@ -40,22 +42,14 @@ pub extern "C" fn kesvuot_symbol_name(
     strx: u32,
     name: &mut KesvuotSpan,
 ) -> u32
-    ensures name { IsName (image_in file.now image.now) image.now strx result name.new }
+    ensures name { Answers (span_at 0 0) result name.new (name_span (image_in file.now image.now) image.now strx) }
     ensures all { ShowsUnbroken file.now image.now
-        → NamesSymbols (image_in file.now image.now) image.now.slice.offset strx result name.new }
+        → Tells (NamesSymbols (image_in file.now image.now) image.now.slice.offset strx)
+        (Answers (span_at 0 0) result name.new) }
 {
     let held = image.held(file);
     let strings = strings(held.bytes, image);
-    match name_span(&held, image, strings, strx) {
-        Some(span) => {
-            *name = span;
-            OK
-        }
-        None => {
-            *name = NO_SPAN;
-            NONE
-        }
-    }
+    answer(name_span(&held, image, strings, strx), NO_SPAN, name)
 }
 
 /// Writes where the names of symbols lie in the file, as `kesvuot_symbol_name` does for each, until

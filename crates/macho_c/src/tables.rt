@@ -2,7 +2,7 @@
 
 ghost use Rattle.macho_fields.specs.Layers.{NothingBreaks};
 ghost use Rattle.macho_fields.specs.Rules.{BreaksImage};
-ghost use Rattle.macho_rows.specs.BoundedTables.{IsAnswer, IsWhole};
+ghost use Rattle.macho_fields.specs.Bytes.{bytes_of};
 ghost use Rattle.macho_rows.specs.Builds.{builds_left, all_builds};
 ghost use Rattle.macho_rows.specs.Commands.{command_rows_left, all_commands};
 ghost use Rattle.macho_rows.specs.Cursor.{start, IsBatch};
@@ -11,10 +11,14 @@ ghost use Rattle.macho_rows.specs.Libraries.{libraries_left, all_libraries};
 ghost use Rattle.macho_rows.specs.Rows.{HasUnbrokenHeaders};
 ghost use Rattle.macho_rows.specs.Sections.{sections_left, all_sections};
 ghost use Rattle.macho_rows.specs.Segments.{segments_left, all_segments};
+ghost use Rattle.macho_rows.specs.Spans.{span_at};
 ghost use Rattle.macho_rows.specs.Symbols.{indirects_left, HasAllIndirects};
+ghost use Rattle.macho_c.specs.Status.{Answers, Tells};
+ghost use Rattle.macho_c.specs.Tables.{found_numbered, table_numbered, IsWholeNumbered};
 ghost use Rattle.std.specs.Prelude.{◌≡◌, None};
 
-use macho_rows::bounded_tables::found_table;
+use crate::status::answer;
+use macho_rows::bounded_tables::{BoundedTable, found_table};
 use macho_rows::builds::{Builds, KesvuotBuild};
 use macho_rows::commands::{Commands, KesvuotCommand};
 use macho_rows::cursor::KesvuotCursor;
@@ -23,8 +27,7 @@ use macho_rows::indirects::IndirectTable;
 use macho_rows::libraries::{KesvuotLibrary, Libraries};
 use macho_rows::sections::{KesvuotSection, Sections};
 use macho_rows::segments::{KesvuotSegment, Segments};
-use macho_rows::span::{KesvuotSpan, NO_SPAN};
-use macho_rows::status::{NONE, OK};
+use macho_rows::span::{Held, KesvuotSpan, NO_SPAN};
 use macho_rows::table::fill;
 
 /// Writes the load commands from the cursor on to the rows of the table, until either runs out, moves
@@ -163,19 +166,41 @@ pub extern "C" fn kesvuot_find_table(
     table: u32,
     bytes: &mut KesvuotSpan,
 ) -> u32
-    ensures answer { IsAnswer (image_in file.now image.now) image.now.slice.offset table result bytes.new }
+    ensures answer { Answers (span_at 0 0) result bytes.new
+        (found_numbered image.now.slice.offset (image_in file.now image.now) table) }
     ensures whole { NothingBreaks (BreaksImage (image_in file.now image.now) None)
-        → IsWhole (image_in file.now image.now) image.now.slice.offset table result bytes.new }
+        → Tells (IsWholeNumbered (image_in file.now image.now) image.now.slice.offset table)
+        (Answers (span_at 0 0) result bytes.new) }
 {
-    let held = image.held(file);
-    match found_table(&held, table) {
-        Some(found) => {
-            *bytes = found;
-            OK
-        }
-        None => {
-            *bytes = NO_SPAN;
-            NONE
-        }
+    answer(found_numbered(&image.held(file), table), NO_SPAN, bytes)
+}
+
+// Where the table with this number lies in the file.
+fn found_numbered(image: &Held, number: u32) -> Option<KesvuotSpan>
+    ensures { result ≡ found_numbered image.now.place (bytes_of image.now.bytes) number }
+{
+    found_table(image, table_numbered(number)?)
+}
+
+// The table with this number. (`kesvuot.h`: `KESVUOT_TABLE_`)
+fn table_numbered(number: u32) -> Option<BoundedTable>
+    ensures { result ≡ table_numbered number }
+{
+    match number {
+        1 => Some(BoundedTable::Symbols),
+        2 => Some(BoundedTable::Strings),
+        3 => Some(BoundedTable::Contents),
+        4 => Some(BoundedTable::Modules),
+        5 => Some(BoundedTable::References),
+        6 => Some(BoundedTable::Indirects),
+        7 => Some(BoundedTable::ExternalRelocations),
+        8 => Some(BoundedTable::LocalRelocations),
+        9 => Some(BoundedTable::Rebase),
+        10 => Some(BoundedTable::Bind),
+        11 => Some(BoundedTable::WeakBind),
+        12 => Some(BoundedTable::LazyBind),
+        13 => Some(BoundedTable::Export),
+        14 => Some(BoundedTable::Encrypted),
+        _ => None,
     }
 }

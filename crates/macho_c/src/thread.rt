@@ -1,17 +1,16 @@
 //! The thread of an image. (`mach-o/loader.h`: `thread_command`)
 
-ghost use Rattle.std.specs.Prelude.{MatchOption};
 ghost use Rattle.macho_fields.specs.Bytes.{bytes_of};
 ghost use Rattle.macho_rows.specs.Image.{image_in};
-ghost use Rattle.macho_c.specs.Threads.{HasNoThreadEntry, IsThreadAnswer, NamesThreadEntry};
+ghost use Rattle.macho_c.specs.Threads.{IsThreadAnswer, IsThreadEntryOf};
 
+use crate::status::answer;
 use macho_commands::thread_entry;
 use macho_rows::image::KesvuotImage;
 use macho_rows::span::Held;
-use macho_rows::status::{NONE, OK};
 
 /// Writes the address at which the first `LC_THREAD` or `LC_UNIXTHREAD` of the image begins. The status is `OK`, or
-/// `NONE` if there is no such command, if its registers are not known, or if the address has no byte of the file
+/// `NONE` if the image has neither, if its registers are not known, or if the address has no byte of the file
 /// that may be executed.
 #[unsafe(no_mangle)]
 pub extern "C" fn kesvuot_find_thread_entry(
@@ -21,22 +20,12 @@ pub extern "C" fn kesvuot_find_thread_entry(
 ) -> u32
     ensures { IsThreadAnswer (image_in file.now image.now) result entry.new }
 {
-    match entry_of(&image.held(file)) {
-        Some(found) => {
-            *entry = found;
-            OK
-        }
-        None => {
-            *entry = 0;
-            NONE
-        }
-    }
+    answer(entry_of(&image.held(file)), 0, entry)
 }
 
 // The entry of the thread of an image.
 fn entry_of(image: &Held) -> Option<u64>
-    ensures { MatchOption result (HasNoThreadEntry (bytes_of image.now.bytes))
-        (NamesThreadEntry (bytes_of image.now.bytes)) }
+    ensures { IsThreadEntryOf (bytes_of image.now.bytes) result }
 {
     match image.open() {
         Some(opened) => thread_entry(&opened),

@@ -3,12 +3,12 @@
 ghost use Rattle.std.specs.Prelude.{◌≡◌, length, pos, IfNone, IfSome};
 ghost use Rattle.macho_fields.specs.RuleList.{profile_numbered, rule_number};
 ghost use Rattle.macho_fields.specs.Universal.{slices_of};
-ghost use Rattle.macho_rows.specs.Status.{KESVUOT_OK, KESVUOT_REFUSED, KESVUOT_NO_MEMORY, KESVUOT_UNKNOWN_PROFILE};
+ghost use Rattle.macho_c.specs.Status.{KESVUOT_OK, KESVUOT_REFUSED, KESVUOT_NO_MEMORY, KESVUOT_UNKNOWN_PROFILE};
 ghost use Rattle.macho_c.specs.Verdict.{Has, IsVerdict};
 
+use crate::status::{NO_MEMORY, OK, REFUSED, UNKNOWN_PROFILE};
 use macho_fields::{Break, Profile};
 use macho_profiles::verify_by;
-use macho_rows::status::{NO_MEMORY, OK, REFUSED, UNKNOWN_PROFILE};
 use macho_rules::{Refusal, Verified};
 use std::alloc::Global;
 
@@ -27,7 +27,7 @@ pub struct KesvuotVerdict {
 }
 
 /// Decides the rules of a file, of the profiles up to the one with this number. The status is `OK` if
-/// the file is accepted, `REFUSED` if it breaks a rule, and `NO_MEMORY` if there is no verdict. It is
+/// the file is accepted, `REFUSED` if it breaks a rule, and `NO_MEMORY` if memory ran out. It is
 /// `UNKNOWN_PROFILE` if no profile has the number, and then nothing is written.
 #[unsafe(no_mangle)]
 pub extern "C" fn kesvuot_verify(

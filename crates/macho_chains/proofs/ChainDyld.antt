@@ -32,7 +32,7 @@ module _ (image : List ℕ) (homes : (place : ℕ) → ¬ BreaksTableHome image 
   named : (command : ℕ) × (chained_fixups image ≡ Some command) × (table ≡ table_at image command linkedit_data_table)
   named = some_of (λ c. table ≡ table_at image c linkedit_data_table) (chained_fixups image) is_at.named
 
-  -- in memory it is that of the file
+  -- in memory it is the file's
   same : (memory : ℕ → ℕ) → IsKept image memory → (k : ℕ) → k < length chains → memory (home + k) ≡ slice_index chains k
   same memory still k less =
       let (command, is_named, is_table) = named in

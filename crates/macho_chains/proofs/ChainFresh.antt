@@ -1,4 +1,4 @@
--- The pointers that a loader has not come to are in memory as the file has them.
+-- The pointers that a loader is still to come to are in memory as the file has them.
 use Rattle.std.proofs.Common.{◌≡◌, ℕ, suc, ◌+◌, ◌≤◌, ◌<◌, ◌⊎◌, List, get_or, slice_get, Some, None, true, refl, sym, ap, ◌∙◌, arith, inl, inr}
 use Rattle.std.specs.Prelude.{slice_index, ◌==◌}
 use Rattle.std.proofs.lemmas.Bool.{cases_Bool}

@@ -26,7 +26,7 @@ import_inside chains header lie k less =
       | inr fits ↦ let inside = item_inside header.imports_offset (import_bits header.imports_format).size header.imports_count k less in omega (arith, fits, inside)
     ]
 
--- the name before that of an import
+-- the name before the name of an import
 abbrev pub name_before : List ℕ → ChainHeader → ℕ → Option ℕ
 name_before chains header zero = None
 name_before chains header (suc k) = Some (import_name_start chains header k)
@@ -79,7 +79,7 @@ module _ (libraries : ℕ) (chains : List ℕ) (header : ChainHeader) (count : �
         library = noted (IsOfNoLibrary libraries chains header) unknown _ _ lacks library_noted walked.library;
       })
 
--- Names that share no byte, of which each ends in the table, have no more bytes than it
+-- Names that share no byte, and each end in the table, have no more bytes than it
 module _ (chains : List ℕ) (header : ChainHeader) (count : ℕ) (apart : (place : ℕ) → ¬ AtItem (import_offset header) count (MayShareBytes chains header) place) where
   names_low : (k : ℕ) → k < count → names_size chains header k ≤ import_name_start chains header k
   names_low zero less = omega arith

@@ -40,7 +40,7 @@ module _ (memory : ℕ → ℕ) (bytes : List ℕ) (width address place : ℕ) (
 pub long_same : (memory : ℕ → ℕ) (bytes : List ℕ) (address place : ℕ) → ((k : ℕ) → k < 8 → memory (address + k) ≡ slice_index bytes (place + k)) → number_in memory 8 address ≡ long bytes place
 long_same memory bytes address place same = number_same memory bytes 8 address place same
 
--- The header is that of the table
+-- The header is the table's
 header_parts : (chains : List ℕ) (header : ChainHeader) (short known : Bool) (format : Option ImportFormat)
     → cond short None (cond known (option_map (header_with chains) format) None) ≡ Some header
     → (short ≡ false) × (header.starts_offset ≡ word chains 4)

@@ -26,7 +26,7 @@ use Rattle.macho_chains.proofs.UnbrokenImports.{imports_there, names_fit}
 use Rattle.macho_chains.proofs.UnbrokenPointers.{import_there}
 use Rattle.macho_chains.proofs.UnbrokenStarts.{entries, counted, segment_there, its_address}
 
--- a pointer that says that there is no next one, and one that says where it is
+-- a pointer that ends a chain, and one that says where the next one is
 ends_chain : (address : ℕ) (said : ChainPointer) → said.distance ≡ 0 → next_pointer address said ≡ None
 ends_chain address said last = rw (eq-eqb said.distance 0 last) refl
 

@@ -130,7 +130,7 @@ module _ (image : List ℕ) (segment : ℕ) (starts : SegmentStarts) (page : ℕ
   lead_none from out [] to same fits = out (subst (Fits image segment starts page) (sym same) fits)
   lead_none from out (first ∷ rest) to (is, here, far, on) fits = out (subst (Fits image segment starts page) is here)
 
-  -- What is found from a pointer on, of which some have P
+  -- What is found from a pointer on, where some have P
 
   module _ (P : ℕ → Type 0) where
     abbrev Broken : ℕ → ℕ → Type 0
@@ -143,7 +143,7 @@ module _ (image : List ℕ) (segment : ℕ) (starts : SegmentStarts) (page : ℕ
       λ place (offset, is, ((before, lead), there), broken). let up = lead_rise from before offset lead in omega (arith, is, up),
     )
 
-    -- it has not, and the next one fits
+    -- it is without P, and the next one fits
     least_on : (from next : ℕ) → Fits image segment starts page from → next ≡ from + (pointer from).distance → 8 ≤ (pointer from).distance → ¬ P from → (found : Option ℕ)
         → IsLeastPlace (Broken next) found → IsLeastPlace (Broken from) found
     least_on from next fits at far kept found =
@@ -160,7 +160,7 @@ module _ (image : List ℕ) (segment : ℕ) (starts : SegmentStarts) (page : ℕ
             let start : first + (pointer first).distance ≡ next = subst (λ n. first + (pointer first).distance ≡ n + (pointer n).distance) here refl ∙ sym at in
             (offset, is, ((rest, subst (λ n. Lead image segment starts page n rest offset) start lead), there), broken)
 
-    -- it has not, and there is no next one
+    -- it is without P, and ends the chain
     least_last : (from : ℕ) → ((pointer from).distance < 8) ⊎ (¬ Fits image segment starts page (from + (pointer from).distance)) → ¬ P from → IsLeastPlace (Broken from) None
     least_last from end kept place (offset, is, ((before, lead), there), broken) = nothing before lead
       where
@@ -221,7 +221,7 @@ module _ (image : List ℕ) (segment : ℕ) (starts : SegmentStarts) (page : ℕ
     abbrev Bad : ℕ → Type 0
     Bad = HasBadNext image segment starts page
 
-    -- there is no next one
+    -- the chain ends
     no_next : (read.distance < 8) ⊎ (limit - 8 < offset + read.distance)
         → ((pointer offset).distance < 8) ⊎ (¬ Fits image segment starts page (offset + (pointer offset).distance))
     no_next end = subst (λ (p : ChainPointer). (p.distance < 8) ⊎ (¬ Fits image segment starts page (offset + p.distance))) same (elim end [

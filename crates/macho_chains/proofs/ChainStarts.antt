@@ -21,7 +21,7 @@ module _ (chains : List ℕ) (header : ChainHeader) where
   pub reach_none : IsReach chains header 0 0
   reach_none offset = (λ low j less. absurd (omega arith), λ by. omega arith)
 
-  -- those of a segment that has none reach no farther
+  -- a segment without starts reaches no farther
   pub reach_same : (k reach : ℕ) → starts_of chains header k ≡ None → IsReach chains header k reach → IsReach chains header (suc k) reach
   reach_same k reach none before offset = (
     λ low j less. elim (cases_lt j k) [

@@ -96,7 +96,7 @@ module _ (image : List ℕ) where
 
 -- What a survey of a table finds
 
--- where there is no header
+-- without a header
 pub survey_headless : (image chains : List ℕ) → chain_header chains ≡ None → AreLeastInTable image chains (record unbroken_chains { header = Some 0 })
 survey_headless image chains none = record {
   header = ((refl, none), λ offset broken. omega arith);
@@ -125,7 +125,7 @@ survey_headed image chains header is starts imports total library least_starts l
     with_it : (X : ChainHeader → ℕ → Type 0) (found : Option ℕ) → IsLeastPlace (X header) found → IsLeastPlace (λ offset. HasHeader chains (λ h. X h offset)) found
     with_it X found least = subst (λ (o : Option ChainHeader). IsLeastPlace (λ offset. IsSomeAnd o (λ h. X h offset)) found) (sym is) least
 
--- its places fit where those of the table do
+-- its places fit where the table's do
 pub survey_fits : (image chains : List ℕ) (survey : ChainSurvey) (start : ℕ) → 0 < length chains → AreLeastInTable image chains survey → start + length chains < 2 ^ 64 → ChainsFitAt start survey
 survey_fits image chains survey start some are fits = record {
   header = fits_moved _ start (length chains) _ (λ offset. no_header image chains offset some) fits are.header;
@@ -181,7 +181,7 @@ chains_unlisted image none = record {
         let (command, is, (some, here)) = some_of (λ c. InTableBytes image (table_at image c linkedit_data_table) Rule place) (chained_fixups image) broken in
         none (bytes_of_table (table_at image command linkedit_data_table)) (chain_table_of image command is some)
 
-    -- the place is that of the command
+    -- the place is the command's
     named : (place : ℕ) → BreaksChainHeader image place → chained_fixups image ≡ Some place
     named place (inl empty) =
         let (command, is, (same, no_bytes)) = some_of (λ c. (place ≡ c) × ((table_at image c linkedit_data_table).1 ≡ 0)) (chained_fixups image) empty in

@@ -77,7 +77,7 @@ module _ (chains : List ℕ) (header : ChainHeader) (k : ℕ) where
     abbrev OfThem : Option SegmentStarts → (SegmentStarts → ℕ → ℕ → Type 0) → ℕ → Type 0
     OfThem found Rule place = IsSomeAnd found (λ starts. OfItem starts.page_count (Rule starts) place)
 
-    -- there are none
+    -- the segment has no starts
     pub pages_none : starts_of chains header k ≡ None → AreLeastPlaces (OfPages chains header k Slot) (OfPages chains header k Bind) unbroken_pointers
     pages_none none =
         subst (λ (found : Option SegmentStarts). AreLeastPlaces (OfThem found Slot) (OfThem found Bind) unbroken_pointers) (sym none)
@@ -182,7 +182,7 @@ module _ (image : List ℕ) where
 -- A place at which a rule is broken lies in the image
 
 module _ (image : List ℕ) (keeps : NothingBreaks (BreaksImage image None)) where
-  -- that of a pointer that fits
+  -- the place of a pointer that fits
   pointer_near : (segment : ℕ) → Contains (all_segments image) segment → (starts : SegmentStarts) (page offset place : ℕ) → Fits image segment starts page offset → place ≡ fileoff image segment + offset
       → place ≤ length image
   pointer_near segment has starts page offset place fits at =

@@ -100,7 +100,7 @@ module _ (image chains : List ℕ) (header : ChainHeader) (none : (offset : ℕ)
       good : ¬ ¬ AreGood chains header image k starts
       good bad = starts_good k less (bad_read chains header image k starts is has_entry bad)
 
-      -- they are those of the segment
+      -- they are the segment's
       pub its_address : (base : ℕ) × (base_of image (commands_of image) ≡ Some base) × (base + starts.segment_offset ≡ vmaddr image (get_or (all_segments image) k 0))
       its_address = based (base_of image (commands_of image)) refl
         where
@@ -117,7 +117,7 @@ module _ (image chains : List ℕ) (header : ChainHeader) (none : (offset : ℕ)
             | inr other ↦ absurd (wrong (Some start) is_base other)
           ]
 
-      -- and begin past those of the segments before it
+      -- and begin past the starts of the segments before it
       pub past_others : StartsEndBy chains header k starts.offset
       past_others j before = each (starts_of chains header j) refl
         where
@@ -131,7 +131,7 @@ module _ (image chains : List ℕ) (header : ChainHeader) (none : (offset : ℕ)
             | inr fits ↦ fits
           ]
 
-  -- those of all segments end in the table
+  -- the starts of all segments end in the table
   pub end_inside : (k : ℕ) → k ≤ entries chains header → StartsEndBy chains header k (length chains)
   end_inside k most j before = each (starts_of chains header j) refl
     where

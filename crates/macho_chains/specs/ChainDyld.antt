@@ -1,6 +1,6 @@
 -- The plain dyld over chained fixups: it takes the starts, the page starts and the pointers as they are in
 -- memory, writes each pointer where it read it, and checks nothing. Memory has a byte for each address, and is
--- that of an image loaded at its base, which is where the segments named __TEXT are (header-home).
+-- the memory of an image loaded at its base, which is where the segments named __TEXT are (header-home).
 -- (mach-o/fixup-chains.h)
 use Rattle.std.specs.Prelude.{◌≡◌, ◌≢◌, ℕ, zero, suc, ◌+◌, ◌*◌, ◌≤◌, ◌<◌, ◌==◌, ◌⊎◌, List, length, Any, Contains, Option, Some, None, IfSome, IsSomeAnd, true, false, slice_get, slice_index, if◌then◌else◌}
 use Rattle.macho_fields.specs.Field.{number, part, HasZero}
@@ -121,7 +121,7 @@ ChainReaches image home first zero last = first ≡ last
 ChainReaches image home first (suc n) last =
     (next : ChainState) × ChainMoves image home first next × ChainReaches image home next n last
 
--- Memory has the bytes of the file, but for those that a kernel decrypts. It is so when an image has been
+-- Memory has the bytes of the file, except those that a kernel decrypts. It is so when an image has been
 -- mapped, and nothing has been written yet.
 abbrev pub IsInMemory : List ℕ → (ℕ → ℕ) → Type 0
 IsInMemory image memory =
@@ -142,7 +142,7 @@ pub record IsImportThere (image chains : List ℕ) (header : ChainHeader) (impor
   pub named : HasZero chains (import_name_start chains header import) (length chains)
   pub library : ¬ IsOfNoLibrary (library_count image) chains header import
 
--- the address is that of a whole pointer in the file bytes of a segment that can be written, and memory has
+-- a whole pointer is at the address, in the file bytes of a segment that can be written, and memory has
 -- these 8 bytes as the file has them
 pub record IsPointerThere (image : List ℕ) (memory : ℕ → ℕ) (segment address : ℕ) : Type 0 where
   pub place : ℕ
@@ -158,7 +158,7 @@ pub record IsPointerThere (image : List ℕ) (memory : ℕ → ℕ) (segment add
 pub record IsChainSafe (image chains : List ℕ) (header : ChainHeader) (home n : ℕ) (a : ChainState) : Type 0 where
   -- there are no more than bytes in the table and pointers in what can be written
   pub ends : n ≤ length chains + budget_of image
-  -- the table in memory is still that of the file, and so is all that no loader writes
+  -- the table in memory is still the file's, and so is all that no loader writes
   pub same : (k : ℕ) → k < length chains → a.memory (home + k) ≡ slice_index chains k
   pub kept : IsKept image a.memory
   -- what it reads next of the table lies in it: the number of entries, an entry, starts, and a page start
@@ -172,7 +172,7 @@ pub record IsChainSafe (image chains : List ℕ) (header : ChainHeader) (home n 
   -- written over it
   pub started : IfSome a.next (λ address. (a.segment < count_in a.memory home) × (entry_in a.memory home a.segment ≢ 0))
   pub pointer : IfSome a.next (IsPointerThere image a.memory a.segment)
-  -- if it binds, it is an import of the table; each of these is there, and their names have no more bytes
+  -- if it binds, it is an import of the table; each import is there, and their names have no more bytes
   -- than the table
   pub bound : (address : ℕ) (format : PointerFormat) → a.next ≡ Some address
       → format_in a.memory home a.segment ≡ Some format

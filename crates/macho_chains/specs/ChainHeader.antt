@@ -29,7 +29,7 @@ header_with chains format = record {
   imports_format = format;
 }
 
--- The header, with imports_format at 20. There is none where the table is shorter than a header, or its
+-- The header, with imports_format at 20. It is None where the table is shorter than a header, or its
 -- version or a format is not known.
 unfoldable pub chain_header : List ℕ → Option ChainHeader
 chain_header chains =

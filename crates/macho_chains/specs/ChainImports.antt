@@ -16,7 +16,7 @@ use Rattle.macho_chains.specs.declared.chain_imports.Ordinal.{Ordinal}
 use Rattle.macho_chains.specs.declared.chain_imports.Ordinal.TheVariants as ordinal
 use Rattle.macho_tables.specs.declared.limits.TheConstants as limit
 
--- The structures: their size, the width of the bits with which they begin, which of these are lib_ordinal, and
+-- The structures: their size, the width of the bits with which they begin, which bits are lib_ordinal, and
 -- from which on they are name_offset. What is between the two, weak_import and reserved bits, is not looked at.
 abbrev pub import_bits : ImportFormat → ImportBits
 import_bits format.Import = record { size = 4; width = Uint32; ordinal_mask = 0xff; name_shift = 9 }

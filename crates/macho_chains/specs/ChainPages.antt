@@ -22,7 +22,7 @@ use Rattle.macho_spans.specs.declared.span.Span.{Span}
 abbrev pub IsRoom : List ℕ → ℕ → ℕ → Type 0
 IsRoom image segment room = (end : ℕ) → 0 < end → (end ≤ room) ↔ IsRoomTo image segment end
 
--- The first command with an encrypted range, if there is one, and whether there is no second one.
+-- The first command with an encrypted range, if any, and whether it is the only one.
 pub record IsEncryptionOf (image : List ℕ) (encryption : Encryption) : Type 0 where
   pub opened : IsOpened image
   pub first : option_map command_of encryption.first

@@ -77,7 +77,7 @@ starts_of chains header k =
 
 -- What the rule says of the starts of a segment
 
--- those of the first segments, so many, end no later than at an offset
+-- the starts of the first segments, so many, end no later than at an offset
 abbrev pub StartsEndBy : List ℕ → ChainHeader → ℕ → ℕ → Type 0
 StartsEndBy chains header k offset =
     (j : ℕ) → j < k → IfSome (starts_of chains header j) (λ starts. starts_end starts ≤ offset)
@@ -92,7 +92,7 @@ AreOf base image segment starts =
     IsSomeAnd base (λ start. start + starts.segment_offset ≡ vmaddr image segment)
     × (is_writable image segment ≡ true)
 
--- the segment k has starts, and they are not whole, or not its own, or begin before those of an earlier
+-- the segment k has starts, and they are not whole, or not its own, or begin before the starts of an earlier
 -- segment end
 abbrev pub HasBadStarts : List ℕ → List ℕ → ChainHeader → ℕ → Type 0
 HasBadStarts image chains header k =

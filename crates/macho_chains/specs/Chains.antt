@@ -22,7 +22,7 @@ use Rattle.macho_chains.specs.declared.chains.ChainTable.{ChainTable}
 use Rattle.macho_chains.specs.declared.chains.ChainedFixups.{ChainedFixups}
 use Rattle.macho_spans.specs.declared.span.Span.{Span}
 
--- the command that names them, of which there is at most one after table-repeated
+-- the command that names them, at most one after table-repeated
 abbrev pub chained_fixups : List ℕ → Option ℕ
 chained_fixups image = first_with_cmd image loader.LC_DYLD_CHAINED_FIXUPS (commands_of image)
 
@@ -32,7 +32,7 @@ IsChainTable image table =
     IsSomeAnd (chained_fixups image)
     (λ command. (table ≡ bytes_of_table (table_at image command linkedit_data_table)) × (0 < table.len))
 
--- the table that was read is that of the image: its start, its bytes, and the header with which they begin
+-- the table that was read is the image's: its start, its bytes, and the header with which they begin
 pub record IsTableOf (image : List ℕ) (table : ChainTable) : Type 0 where
   pub named : IsChainTable image (record { start = table.start; len = length (bytes_of table.bytes) })
   pub near : table.start + length (bytes_of table.bytes) < 2 ^ 64
@@ -44,7 +44,7 @@ pub record AreChainedFixups (image : List ℕ) (fixups : ChainedFixups) : Type 0
   pub command : fixups.command ≡ chained_fixups image
   pub table : MatchOption fixups.table ((table : Span) → ¬ IsChainTable image table) (IsTableOf image)
 
--- The rules of an image and the bytes of its table, at an offset in the table. Where there is no header, no
+-- The rules of an image and the bytes of its table, at an offset in the table. Without a header, no
 -- other rule is broken.
 
 abbrev pub NoHeader : List ℕ → List ℕ → ℕ → Type 0
@@ -95,7 +95,7 @@ InPointers image Rule place =
     IsSomeAnd (chained_fixups image)
     (λ command. OfTable image (table_at image command linkedit_data_table) Rule place)
 
--- the least places at which the rules are broken: that of the header, and those of the table
+-- the least places at which the rules are broken: the place of the header, and the places of the table
 pub record AreLeastInChains (Header : ℕ → Type 0) (In : (List ℕ → List ℕ → ℕ → Type 0) → ℕ → Type 0) (survey : ChainSurvey) : Type 0 where
   pub header : IsLeastPlace Header survey.header
   pub starts : IsLeastPlace (In BadStarts) survey.starts

@@ -81,7 +81,7 @@ impl ChainHeader {
     ghost use Rattle.macho_chains.specs.ChainHeader.{chain_header};
 
     /// The header with which the table begins. It is `None` if the table is shorter, or the version, the
-    /// format of the imports or that of the names is not known.
+    /// format of the imports or of the names is not known.
     #[tactic(auto, unfolding(crate::specs::ChainHeader::chain_header))]
     pub fn read(chains: Bytes) -> Option<ChainHeader>
         ensures { result ≡ chain_header (bytes_of chains.entry) }

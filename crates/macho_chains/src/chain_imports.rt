@@ -75,7 +75,7 @@ impl Ordinal {
     ghost use Rattle.std.specs.Prelude.{◌≡◌, ◌↔◌, ◌≤◌, ◌<◌, ◌^◌, IsTrue};
     ghost use Rattle.macho_chains.specs.ChainImports.{ordinal_of, IsNoLibrary};
 
-    // The ordinal in the bits of a mask, of which the greatest values are below 0.
+    // The ordinal in the bits of a mask, whose greatest values are below 0.
     fn of(bits: u64, mask: u64) -> Ordinal
         requires bits { bits ≤ mask }
         requires least { SPECIAL_VALUES ≤ mask }
@@ -289,7 +289,7 @@ impl ChainHeader {
     }
 }
 
-// The offset past the last zero byte of the table, or 0 if there is none.
+// The offset past the last zero byte of the table, or 0 without one.
 fn zeros_end(chains: Bytes) -> u64
     ensures { (start : ℕ) → (start < result)
         ↔ HasZero (bytes_of chains.entry) start (length (bytes_of chains.entry)) }

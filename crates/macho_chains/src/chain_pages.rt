@@ -189,7 +189,7 @@ fn room_beside(image: &Image, segment: &Segment, encryption: Encryption) -> u64
 struct Encryption<'a> {
     // The first of them.
     first: Option<Command<'a>>,
-    // Whether there is no second one.
+    // Whether it is the only one.
     is_single: bool,
 }
 

@@ -195,7 +195,7 @@ fn first_with_bad_starts(image: &Image, chains: Chains, count: u32) -> Option<u3
     None
 }
 
-// The first offset past the starts of the segment, which has this index, and of those before it, which end at
+// The first offset past the starts of the segment, which has this index, and of the segments before it, which end at
 // `reach`. It is `None` if its starts are bad.
 fn past_starts(
     segment: &Segment,

@@ -8,7 +8,7 @@ pub(crate) fn written(rt: &(impl Abort + AllocGlobal), text: &str) -> Vec<u8> {
     bytes_of(rt.alloc(), text).expect(rt, "pairs of digits, and memory")
 }
 
-/// The bytes, or `None` if the text is not of this form, or if there is no memory.
+/// The bytes, or `None` if the text is not of this form, or if memory ran out.
 fn bytes_of(alloc: Global, text: &str) -> Option<Vec<u8>> {
     let mut bytes = Vec::new(alloc);
     for word in text.split_whitespace() {

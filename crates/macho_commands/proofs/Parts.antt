@@ -15,7 +15,7 @@ no_part size bytes whole = record {
 }
 
 module _ (bytes : List ℕ) (content : Content) (what : Holding) (is : content.holding ≡ what) where
-  -- two parts are those of a command that holds such
+  -- two parts belong to a command that holds such
   pub are_parts : (P Q : ℕ → Type 0) (first second : Span) → IsDescribedPart content.size bytes P first → IsDescribedPart content.size bytes Q second → ¬ IsBadPart content.size bytes what
       → ((offset : ℕ) → (P offset ⊎ Q offset) ↔ IsWithin content.size bytes what offset) → AreParts bytes content (record { first = first; second = second })
   are_parts P Q first second one other good same = record {

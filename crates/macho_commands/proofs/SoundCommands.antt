@@ -44,7 +44,7 @@ runs_or_not image address segment = elim (covers_or_not image address segment) [
   ]
 ]
 
-executable_or_not : (image : List ℕ) (address : ℕ) → IsExecutable image (commands_of image) address ⊎ ¬ IsExecutable image (commands_of image) address
+pub executable_or_not : (image : List ℕ) (address : ℕ) → IsExecutable image (commands_of image) address ⊎ ¬ IsExecutable image (commands_of image) address
 executable_or_not image address = any_or_not (RunsAt image address) (runs_or_not image address) (segments_of image (commands_of image))
 
 module _ (bytes : List ℕ) where

@@ -1,4 +1,4 @@
--- The states of a thread, one after the other, and the one that has registers.
+-- The states of a thread, one after the other, and the state with registers.
 use Rattle.std.proofs.Common.{◌≡◌, ◌↔◌, ◌∙◌, ℕ, ◌≤◌, ◌<◌, List, [], ◌∷◌, ◌++◌, length, filter, true, false, Option, None, Some, refl, sym, ap, subst, arith}
 use Rattle.std.specs.Option.{is_some}
 use Rattle.std.proofs.lemmas.Bool.{false≢true}
@@ -10,7 +10,7 @@ abbrev pub listed : Option ℕ → List ℕ
 listed None = []
 listed (Some state) = state ∷ []
 
--- of the one found, and the states that follow from the start on, this is the one that has registers
+-- of the one found, and the states that follow from the start on, this is the state with registers
 abbrev pub IsLeft : ℕ → List ℕ → ℕ → Option ℕ → ℕ → Type 0
 IsLeft cputype bytes start found state =
     (states : List ℕ) × FollowStates bytes start states

@@ -11,7 +11,7 @@ abbrev pub is_zero : ℕ → Bool
 is_zero byte = byte == 0
 
 module _ (bytes : List ℕ) (start : ℕ) where
-  -- those of the first k bytes from the start on
+  -- the zero bytes among the first k bytes from the start on
   abbrev count : ℕ → ℕ
   count k = count_by is_zero (take k (drop start bytes))
 
@@ -34,7 +34,7 @@ module _ (bytes : List ℕ) (start : ℕ) where
     | inr other ↦ count_by_more_no is_zero (drop start bytes) k 0 (omega (arith, length-drop start bytes)) other
   ]
 
-  -- no more of more bytes, where none of these is zero
+  -- no more among more bytes, where the added bytes are not zero
   none_more : (k n : ℕ) → start + (k + n) ≤ length bytes → ¬ HasZero bytes (start + k) (start + (k + n)) → count (k + n) ≡ count k
   none_more k zero inside none = ap count (omega arith)
   none_more k (suc n) inside none =
@@ -78,7 +78,7 @@ module _ (bytes : List ℕ) (start : ℕ) where
       let up = more k n (omega arith) in
       omega (arith, at, up)
 
-  -- Strings from the start on, of which so many end before the place
+  -- Strings from the start on; so many end before the place
 
   pub record Ended (index end : ℕ) : Type 0 where
     pub low : start ≤ end

@@ -57,7 +57,7 @@ abbrev pub content_of : ℕ → Option Content
 content_of cmd =
     option_map (λ command. command.content) (find (λ command. command.cmd == cmd) held_commands)
 
--- the commands for no image of this kind: those of 32-bit images, and those of a set of images
+-- the commands for no image of this kind: the commands of 32-bit images, and of a set of images
 abbrev pub foreign_cmds : List ℕ
 foreign_cmds = loader.LC_SEGMENT ∷ loader.LC_ENCRYPTION_INFO ∷ loader.LC_FILESET_ENTRY ∷ []
 

@@ -1,5 +1,5 @@
 -- What a held command describes of its own bytes, past its structure. All offsets are counted from the start of the
--- command, of which these are the bytes. (mach-o/loader.h: lc_str, prebound_dylib_command, linker_option_command)
+-- command, whose bytes these are. (mach-o/loader.h: lc_str, prebound_dylib_command, linker_option_command)
 use Rattle.std.specs.Prelude.{◌≢◌, ℕ, ◌+◌, ◌-◌, ◌*◌, ◌≤◌, ◌<◌, ◌==◌, ◌⊎◌, ◌↔◌, ⊤, List, length, count_by, slice_index}
 use Rattle.macho_fields.specs.Field.{part, HasZero}
 use Rattle.macho_fields.specs.Image.{word}
@@ -116,7 +116,7 @@ pub record LieInside (size : ℕ) (bytes : List ℕ) (parts : Parts) : Type 0 wh
   pub second_start : size ≤ parts.second.start
   pub second_end : end_of parts.second ≤ length bytes
 
--- they are those of a command with this content
+-- they belong to a command with this content
 pub record AreParts (bytes : List ℕ) (content : Content) (parts : Parts) : Type 0 where
   pub inside : LieInside content.size bytes parts
   pub good : ¬ HasBadPart bytes content

@@ -1,4 +1,4 @@
--- What holds of the load commands of an image that breaks neither the rule of threads nor that of the content of
+-- What holds of the load commands of an image that breaks neither the rule of threads nor the rule of the content of
 -- commands.
 use Rattle.std.specs.Prelude.{◌≡◌, ℕ, ◌+◌, ◌-◌, ◌*◌, ◌≤◌, ◌<◌, ⊤, List, length, Contains, Bool, true, false, IfSome, slice_index}
 use Rattle.macho_fields.specs.Field.{HasZero}

@@ -29,7 +29,7 @@ FollowStates bytes start (state ∷ states) =
     (state ≡ start) × (state_end bytes state ≤ length bytes)
     × FollowStates bytes (state_end bytes state) states
 
--- those of a thread begin after its cmd and cmdsize
+-- the states of a thread begin after its cmd and cmdsize
 abbrev pub AreStates : List ℕ → List ℕ → Type 0
 AreStates bytes states = FollowStates bytes fields.LOAD_COMMAND_SIZE states
 

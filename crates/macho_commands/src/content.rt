@@ -78,7 +78,7 @@ macro_rules! held {
     };
 }
 
-/// What a held command with this `cmd` has, or `None` if it is no held command.
+/// What a held command with this `cmd` has, or `None` if it is not a held command.
 pub fn content_of(cmd: u32) -> Option<Content>
     ensures content { result ≡ content_of cmd }
     ensures fields { IfSome result HasFields }

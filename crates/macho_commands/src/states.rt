@@ -10,7 +10,7 @@ use macho_fields::header::loader::LOAD_COMMAND_SIZE;
 use macho_fields::header::thread_status::{STATE_COUNT, STATE_HEADER_SIZE, STATE_WORD_SIZE};
 use macho_fields::{Bytes, Order};
 
-// The entry that the thread names, or `None` where it has not one state with registers, or these are not whole.
+// The entry that the thread names, or `None` where it does not have one state with registers, or these are not whole.
 pub(crate) fn thread_entry_of(cputype: u32, command: Bytes) -> Option<u64>
     requires { LOAD_COMMAND_SIZE ≤ length (bytes_of command) }
     ensures { (entry : ℕ) → (result ≡ Some entry)

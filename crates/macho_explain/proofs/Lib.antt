@@ -1,6 +1,9 @@
+pub mod Linked
+pub mod FunctionNumbers
 pub mod Shown
 pub mod ShownExports
 pub mod ShownSeals
 pub mod ShownSignatures
 pub mod SymbolsAt
 pub mod Walked
+pub mod Wholes

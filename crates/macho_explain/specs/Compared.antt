@@ -1,18 +1,20 @@
 -- What an explanation has of each rule: the numbers that the rule compares, and of overlaps what both parts
 -- share. (docs/reference/explain.md)
-use Rattle.std.specs.Prelude.{◌≡◌, ℕ, ◌+◌, ◌-◌, ◌*◌, ◌/◌, ◌^◌, ◌≤◌, ◌<◌, ◌⊎◌, min, take, List, length, Option, Some, MatchOption, IsSomeAnd, slice_get, true}
-use Rattle.std.specs.Option.{option_map_or}
-use Rattle.macho_fields.specs.Field.{part}
+use Rattle.std.specs.Prelude.{◌≡◌, ℕ, ◌+◌, ◌-◌, ◌*◌, ◌/◌, ◌%◌, ◌^◌, ◌≢◌, ◌≤◌, ◌<◌, ◌⊎◌, min, take, List, length, Option, Some, MatchOption, IsSomeAnd, slice_get, true}
+use Rattle.std.specs.Option.{option_map, option_map_or}
 use Rattle.macho_fields.specs.Image.{command_cmd, command_size, commands_of}
 use Rattle.macho_fields.specs.Segment.{all_segments, base_of, vmaddr, vmsize, fileoff, filesize, section_address, section_size, section_offset, reloff, nreloc, section_count}
 use Rattle.macho_fields.specs.Symbol.{n_strx, n_sect}
-use Rattle.macho_fields.specs.Universal.{FileSlice, slices_of}
+use Rattle.macho_fields.specs.Universal.{FileSlice, slices_of, IsUniversal}
 use Rattle.macho_fields.specs.declared.header.loader.TheConstants as loader
 use Rattle.macho_fields.specs.declared.rule.Rule.{Rule}
 use Rattle.macho_fields.specs.declared.rule.Rule.TheVariants as rule
+use Rattle.macho_chains.specs.ChainHeader.{chain_header}
 use Rattle.macho_chains.specs.ChainPointers.{pointer_of}
-use Rattle.macho_tables.specs.DataInCode.{entry_at}
+use Rattle.macho_chains.specs.declared.chain_header.ChainHeader.{ChainHeader}
+use Rattle.macho_tables.specs.DataInCode.{entry_at, entry_place}
 use Rattle.macho_exports.specs.ExportTrie.{Node, node_at, export_in}
+use Rattle.macho_exports.specs.Exports.{export_table}
 use Rattle.macho_tables.specs.Kinds.{share_kind}
 use Rattle.macho_tables.specs.Limits.{budget_of, library_count}
 use Rattle.macho_tables.specs.Numbers.{unsigned_at}
@@ -24,16 +26,20 @@ use Rattle.macho_exports.specs.declared.export_trie.Target.TheVariants as target
 use Rattle.macho_fields.specs.declared.header.fixup_chains.TheConstants as chained
 use Rattle.macho_spans.specs.Span.{end_of}
 use Rattle.macho_spans.specs.declared.span.Span.{Span}
+use Rattle.macho_symbols.specs.Indirects.{indirect_count}
+use Rattle.macho_tables.specs.declared.init_offsets.TheConstants as init
 use Rattle.macho_symbols.specs.Nlist.{library_ordinal}
 use Rattle.macho_symbols.specs.Reloc.{relocation_at}
 use Rattle.macho_symbols.specs.declared.reloc.Relocation.{Relocation}
 use Rattle.macho_fields.specs.declared.header.reloc.TheConstants as reloc
-use Rattle.macho_image.specs.Symbol.{symbol_at}
-use Rattle.macho_explain.specs.Explain.{all_loads, all_segment_loads, IsUncounted, long_at, word_at}
+use Rattle.macho_image.specs.Command.{first_with_cmd}
+use Rattle.macho_image.specs.Symbol.{dysymtab_at, symbol_at}
+use Rattle.macho_explain.specs.Explain.{all_loads, all_segment_loads, IsCommandAt, IsUncounted, long_at, word_at}
 use Rattle.macho_explain.specs.Parts.{IsBefore, Share}
 use Rattle.macho_explain.specs.Seals.{IsRepeatShown, ShowsHash}
-use Rattle.macho_explain.specs.Signatures.{IsBlobShown, IsLimitShown, IsSizeOfTable, IsSuperblobShown, IsUnsoundShown, ShowsSignature}
+use Rattle.macho_explain.specs.Signatures.{IsBlobShown, IsLimitShown, IsSuperblobShown, IsUnsoundShown, ShowsSignature}
 use Rattle.macho_signature.specs.Signature.{bytes_at}
+use Rattle.macho_explain.specs.Wholes.{named_table, Opens, InWhole, InTable, IsWhole}
 use Rattle.macho_rows.specs.Segments.{last_address}
 use Rattle.macho_explain.specs.declared.conflict.Conflict.{Conflict}
 
@@ -64,7 +70,12 @@ SharesOrPasses image conflict = Share conflict ⊎ (conflict.limit ≡ length im
 
 -- the number is the size of a table of chained fixups, as its command says
 abbrev pub IsChainSize : List ℕ → ℕ → Type 0
-IsChainSize image size = IsSizeOfTable image loader.LC_DYLD_CHAINED_FIXUPS size
+IsChainSize image size = IsSomeAnd (named_table image loader.LC_DYLD_CHAINED_FIXUPS) (λ table. size ≡ table.len)
+
+-- they are the table, and its header is known
+abbrev pub AreChains : List ℕ → Span → List ℕ → ChainHeader → Type 0
+AreChains image table bytes header =
+    IsWhole image (named_table image loader.LC_DYLD_CHAINED_FIXUPS) table bytes × (chain_header bytes ≡ Some header)
 
 -- the 64 bits at the place are a pointer that binds the import with this ordinal
 abbrev pub Binds : List ℕ → ℕ → ℕ → Type 0
@@ -76,12 +87,24 @@ abbrev pub IsStartShown : List ℕ → ℕ → ℕ → ℕ → Type 0
 IsStartShown table base offset address =
     (function : ℕ) × IsStartAt table base offset function × (address ≡ written function)
 
--- a number at the place of an image, in such a table of it, is
+-- a number at the place of an image, in its table, is
 abbrev pub IsFunctionShown : List ℕ → ℕ → ℕ → Type 0
 IsFunctionShown image place address =
-    (table : Span) × (base : ℕ) × (offset : ℕ) × (base_of image (commands_of image) ≡ Some base)
-    × (place ≡ table.start + offset)
-    × IsStartShown (part table.start table.len image) base offset address
+    InWhole image (named_table image loader.LC_FUNCTION_STARTS)
+    (λ start table offset. IsSomeAnd (base_of image (commands_of image)) (λ base. IsStartShown table base offset address))
+    place
+
+-- the size of the table of data in code, whose last entry is cut
+abbrev pub IsRestShown : List ℕ → Conflict → Type 0
+IsRestShown image c =
+    IsSomeAnd (named_table image loader.LC_DATA_IN_CODE) (λ table. c.value ≡ table.len)
+    × (c.limit ≡ loader.DATA_IN_CODE_ENTRY_SIZE) × (c.value % c.limit ≢ 0)
+
+-- the size of an offset of an initializer, which is cut; or the address to which it leads
+abbrev pub IsInitializerShown : List ℕ → ℕ → Conflict → Type 0
+IsInitializerShown image place c =
+    (c.limit ≡ init.INIT_OFFSET_SIZE)
+    ⊎ IsSomeAnd (base_of image (commands_of image)) (λ base. c.value ≡ written (base + word_at image place))
 
 -- the kind of an entry of data in code, and the last one that has a meaning; or where its bytes end
 abbrev pub IsEntryShown : DataInCodeEntry → Conflict → Type 0
@@ -89,11 +112,9 @@ IsEntryShown entry c =
     ((c.value ≡ entry.kind) × (c.limit ≡ loader.DICE_KIND_ABS_JUMP_TABLE32))
     ⊎ (c.value ≡ entry.offset + entry.length)
 
--- the place is at an offset of a table of the image, whose bytes have P
-abbrev pub InTable : List ℕ → ℕ → (List ℕ → ℕ → Type 0) → Type 0
-InTable image place P =
-    (table : Span) × (offset : ℕ) × (place ≡ table.start + offset)
-    × P (part table.start table.len image) offset
+-- the place is at an offset of the export trie of the image, with P
+abbrev pub InTrie : List ℕ → ℕ → (List ℕ → ℕ → Type 0) → Type 0
+InTrie image place P = InWhole image (export_table image) (λ start trie offset. P trie offset) place
 
 -- the flags of an export, or 0 where they do not end in its terminal part
 unfoldable pub flags_shown : List ℕ → Span → ℕ
@@ -178,6 +199,16 @@ IsFileSize image size = (segment : ℕ) × (size ≡ filesize image segment)
 abbrev pub IsHomelessShown : List ℕ → Conflict → Type 0
 IsHomelessShown image c = (c.limit ≡ 0) ⊎ IsFileEnd image c.limit ⊎ Share c
 
+-- the size of the section, which its stubs or pointers do not fill; or how many indirect entries the image has
+abbrev pub IsIndirectShown : List ℕ → ℕ → Conflict → Type 0
+IsIndirectShown image section c =
+    (c.value ≡ section_size image section) ⊎ (c.limit ≡ indirect_count image)
+
+-- a field of the command says that there are so many items, and there are some
+abbrev pub IsCountShown : List ℕ → ℕ → ℕ → Type 0
+IsCountShown image place count =
+    (0 < count) × ((field : ℕ) × (count ≡ word_at image (written (place + field))))
+
 -- What a rule is about: of the rules for which it is promised that this is explained
 
 abbrev pub HasHeader : List ℕ → ℕ → Type 0
@@ -197,6 +228,46 @@ HasSegment image place =
 abbrev pub HasByte : List ℕ → ℕ → Type 0
 HasByte image place = place < length image
 
+-- fat_header.nfat_arch of a universal file is there
+abbrev pub HasCount : List ℕ → ℕ → Type 0
+HasCount file place = (place ≡ 4) × IsUniversal file
+
+abbrev pub HasCommandByte : List ℕ → ℕ → Type 0
+HasCommandByte image place = HasByte image place × ¬ IsUncounted image × (k : ℕ) × IsCommandAt image k place
+
+-- an entry of the table of indirect symbols is there
+abbrev pub HasIndirect : List ℕ → ℕ → Type 0
+HasIndirect image place =
+    Opens image
+    × IsSomeAnd (option_map (dysymtab_at image) (first_with_cmd image loader.LC_DYSYMTAB (commands_of image))) (λ dysymtab.
+    (k : ℕ) × (k < dysymtab.nindirectsyms) × (place ≡ dysymtab.indirectsymoff + loader.INDIRECT_ENTRY_SIZE * k))
+
+-- the table of chained fixups begins there; or it has no bytes, and a command is there
+abbrev pub HasChainHeader : List ℕ → ℕ → Type 0
+HasChainHeader image place =
+    Opens image
+    × IsSomeAnd (named_table image loader.LC_DYLD_CHAINED_FIXUPS) (λ table.
+    ((table.len ≡ 0) × HasCommand image place) ⊎ ((0 < table.len) × (place ≡ table.start)))
+
+-- the number at an offset of a table of function starts is that of a function
+abbrev pub HasFunction : List ℕ → List ℕ → ℕ → Type 0
+HasFunction image table offset =
+    IsSomeAnd (base_of image (commands_of image)) (λ base. (function : ℕ) × IsStartAt table base offset function)
+
+-- an entry of data in code begins at an offset of its table, whole or not
+abbrev pub IsEntryPlace : List ℕ → ℕ → Type 0
+IsEntryPlace table offset = (k : ℕ) × (offset ≡ entry_place k) × (offset < length table)
+
+-- the place is in the export trie, or ends it
+abbrev pub HasNodeAt : List ℕ → ℕ → Type 0
+HasNodeAt image place = Opens image × InTrie image place (λ trie offset. offset ≤ length trie)
+
+-- a node of the trie is there, and its terminal part has P
+abbrev pub HasNodeWith : (List ℕ → List ℕ → Span → Type 0) → List ℕ → ℕ → Type 0
+HasNodeWith P image place =
+    Opens image
+    × InTrie image place (λ trie offset. (offset ≤ length trie) × HasNode trie offset (λ terminal end. P image trie terminal))
+
 -- that something is explained is not promised
 abbrev pub Unpromised : List ℕ → ℕ → Type 0
 Unpromised bytes place = ⊥
@@ -214,16 +285,16 @@ OfSlice file index P =
 
 abbrev pub shown : Rule → Shown
 shown rule.Magic = OfFile HasStart (λ file place index c. (place ≡ 0) × (c.limit ≡ loader.MH_MAGIC_64))
-shown rule.FatTruncated = OfFile Unpromised (λ file place index c. (place ≡ 4) × (c.limit ≡ length file))
+shown rule.FatTruncated = OfFile HasCount (λ file place index c. (place ≡ 4) × (c.limit ≡ length file))
 shown rule.FatSliceOutside = OfFile Unpromised (λ file place index c. OfSlice file index (λ slice. (c.value ≡ written (slice.start + slice.size)) × (c.limit ≡ length file)))
 shown rule.FatSliceInTable = OfFile Unpromised (λ file place index c. OfSlice file index (λ slice. c.value ≡ slice.start))
 shown rule.FatAlign = OfFile Unpromised (λ file place index c. OfSlice file index (λ slice. c.value ≡ slice.start))
 shown rule.FatOverlap = OfFile Unpromised (λ file place index c. Share c × IsBefore c)
 shown rule.FatDuplicate = OfFile Unpromised (λ file place index c. (c.value ≡ c.limit) × IsBefore c)
 shown rule.FatSliceMagic = OfFile Unpromised (λ file place index c. OfSlice file index (λ slice. slice.start ≡ place) × (c.limit ≡ loader.MH_MAGIC_64))
-shown rule.FatEmpty = OfFile Unpromised (λ file place index c. (place ≡ 4) × (c.value ≡ 0) × (c.limit ≡ 1))
+shown rule.FatEmpty = OfFile HasCount (λ file place index c. (place ≡ 4) × (c.value ≡ 0) × (c.limit ≡ 1))
 shown rule.HeaderTruncated = OfImage HasHeader (λ image place c. (c.value ≡ 32) × (c.limit ≡ length image))
-shown rule.ArchMismatch = OfImage Unpromised (λ image place c. IsArchOf (word_at image 4) c.value)
+shown rule.ArchMismatch = OfImage HasHeader (λ image place c. IsArchOf (word_at image 4) c.value)
 shown rule.FileType = OfImage HasHeader (λ image place c. (c.value ≡ word_at image 12) × (c.limit ≡ 0))
 shown rule.CommandsOutside = OfImage HasHeader (λ image place c. (c.value ≡ 32 + word_at image 20) × (c.limit ≡ length image))
 shown rule.CommandWalk = OfImage Unpromised (λ image place c. IsWalkShown image place c.value c.limit)
@@ -242,17 +313,17 @@ shown rule.TableRange = OfImage Unpromised (λ image place c. (c.limit ≡ lengt
 shown rule.SymbolGroup = OfImage Unpromised (λ image place c. c.limit < c.value)
 shown rule.SymbolName = OfImage Unpromised (λ image place c. c.value ≡ n_strx image place)
 shown rule.SymbolSection = OfImage Unpromised (λ image place c. (c.value ≡ n_sect image place) × (c.limit ≡ section_count image (commands_of image)))
-shown rule.IndirectIndex = OfImage Unpromised (λ image place c. c.value ≡ word_at image place)
+shown rule.IndirectIndex = OfImage HasIndirect (λ image place c. c.value ≡ word_at image place)
 shown rule.Entry = OfImage HasCommand (λ image place c. IsEntryPointShown image place c)
-shown rule.FatStrayByte = OfFile Unpromised (λ file place index c. IsByteShown file place c)
+shown rule.FatStrayByte = OfFile HasByte (λ file place index c. IsByteShown file place c)
 shown rule.CommandsEnd = OfImage Unpromised (λ image place c. c.limit ≡ 32 + word_at image 20)
 shown rule.HeaderSegment = OfImage HasHeader (λ image place c. c.value ≡ 32 + word_at image 20)
 shown rule.SegmentFileOverlap = OfImage Unpromised (λ image place c. Share c)
 shown rule.ElementOverlap = OfImage Unpromised (λ image place c. SharesOrPasses image c)
-shown rule.StrayByte = OfImage Unpromised (λ image place c. IsByteShown image place c)
+shown rule.StrayByte = OfImage HasByte (λ image place c. IsByteShown image place c)
 shown rule.EncryptedRange = OfImage Unpromised (λ image place c. (c.limit ≡ 32 + word_at image 20) ⊎ (c.limit ≡ 0) ⊎ IsFileEnd image c.limit)
-shown rule.CommandSlack = OfImage Unpromised (λ image place c. IsByteShown image place c)
-shown rule.UnclaimedByte = OfImage Unpromised (λ image place c. IsByteShown image place c)
+shown rule.CommandSlack = OfImage HasCommandByte (λ image place c. IsByteShown image place c)
+shown rule.UnclaimedByte = OfImage HasByte (λ image place c. IsByteShown image place c)
 shown rule.TableRepeated = OfImage Unpromised (λ image place c. (c.value ≡ command_cmd image place) × (share_kind c.limit c.value ≡ true) × IsBefore c)
 shown rule.FunctionVariants = OfImage HasCommand (λ image place c. (c.value ≡ command_cmd image place) × (c.limit ≡ 0))
 shown rule.TableHome = OfImage Unpromised (λ image place c. IsHomelessShown image c)
@@ -266,31 +337,35 @@ shown rule.BindSymbol = OfImage Unpromised (λ image place c. c.limit ≡ 0)
 shown rule.BindSlot = OfImage Unpromised (λ image place c. (c.limit ≡ 0) ⊎ IsFileSize image c.limit)
 shown rule.BindTotal = OfImage Unpromised (λ image place c. c.limit ≡ written (budget_of image))
 shown rule.BindNames = OfImage Unpromised (λ image place c. c.limit ≤ length image)
-shown rule.ChainHeader = OfImage Unpromised (λ image place c. IsChainSize image c.value × (c.limit ≡ chained.DYLD_CHAINED_FIXUPS_HEADER_SIZE))
+shown rule.ChainHeader = OfImage HasChainHeader (λ image place c. IsChainSize image c.value × (c.limit ≡ chained.DYLD_CHAINED_FIXUPS_HEADER_SIZE))
 shown rule.ChainStarts = OfImage Unpromised (λ image place c. IsChainSize image c.limit ⊎ ((c.value ≡ word_at image place) × (c.limit ≡ length (all_segments image))))
 shown rule.ChainImports = OfImage Unpromised (λ image place c. IsChainSize image c.limit)
 shown rule.ChainTotal = OfImage Unpromised (λ image place c. IsChainSize image c.limit)
 shown rule.ChainLibrary = OfImage Unpromised (λ image place c. c.limit ≡ library_count image)
 shown rule.ChainSlot = OfImage Unpromised (λ image place c. 8 ≤ c.value)
 shown rule.ChainBind = OfImage Unpromised (λ image place c. Binds image place c.value)
-shown rule.ExportNode = OfImage Unpromised (λ image place c. InTable image place (λ trie offset. (c.value ≡ offset) × (c.limit ≡ length trie)))
-shown rule.ExportTotal = OfImage Unpromised (λ image place c. InTable image place (λ trie offset. HasNode trie offset (λ terminal end. c.value ≡ end - offset) × (c.limit ≡ length trie)))
-shown rule.ExportTerminal = OfImage Unpromised (λ image place c. InTable image place (λ trie offset. HasNode trie offset (λ terminal end. c.value ≡ flags_shown trie terminal)) × (c.limit ≡ 0x1f))
-shown rule.ExportLibrary = OfImage Unpromised (λ image place c. InTable image place (λ trie offset. HasNode trie offset (λ terminal end. HasExportTarget trie terminal (HasOrdinal c.value))) × (c.limit ≡ library_count image))
-shown rule.ExportAddress = OfImage Unpromised (λ image place c. InTable image place (λ trie offset. HasNode trie offset (λ terminal end. HasExportTarget trie terminal (LeadsTo image c.value))) × (c.limit ≡ 0))
-shown rule.FunctionNumber = OfImage Unpromised (λ image place c. IsByteShown image place c)
-shown rule.FunctionStart = OfImage Unpromised (λ image place c. IsFunctionShown image place c.value)
-shown rule.DataInCode = OfImage Unpromised (λ image place c. (c.limit ≡ loader.DATA_IN_CODE_ENTRY_SIZE) ⊎ IsEntryShown (entry_at image place) c)
+shown rule.ExportNode = OfImage HasNodeAt (λ image place c. InTrie image place (λ trie offset. (c.value ≡ offset) × (c.limit ≡ length trie)))
+shown rule.ExportTotal = OfImage (HasNodeWith (λ image trie terminal. Unit {0})) (λ image place c. InTrie image place (λ trie offset. HasNode trie offset (λ terminal end. c.value ≡ end - offset) × (c.limit ≡ length trie)))
+shown rule.ExportTerminal = OfImage (HasNodeWith (λ image trie terminal. Unit {0})) (λ image place c. InTrie image place (λ trie offset. HasNode trie offset (λ terminal end. c.value ≡ flags_shown trie terminal)) × (c.limit ≡ 0x1f))
+shown rule.ExportLibrary = OfImage (HasNodeWith (λ image trie terminal. (ordinal : ℕ) × HasExportTarget trie terminal (HasOrdinal ordinal))) (λ image place c. InTrie image place (λ trie offset. HasNode trie offset (λ terminal end. HasExportTarget trie terminal (HasOrdinal c.value))) × (c.limit ≡ library_count image))
+shown rule.ExportAddress = OfImage (HasNodeWith (λ image trie terminal. (address : ℕ) × HasExportTarget trie terminal (LeadsTo image address))) (λ image place c. InTrie image place (λ trie offset. HasNode trie offset (λ terminal end. HasExportTarget trie terminal (LeadsTo image c.value))) × (c.limit ≡ 0))
+shown rule.FunctionNumber = OfImage (λ image place. InTable image loader.LC_FUNCTION_STARTS (λ start table offset. offset < length table) place) (λ image place c. IsByteShown image place c)
+shown rule.FunctionStart = OfImage (λ image place. InTable image loader.LC_FUNCTION_STARTS (λ start table offset. HasFunction image table offset) place) (λ image place c. IsFunctionShown image place c.value)
+shown rule.DataInCode = OfImage (λ image place. InTable image loader.LC_DATA_IN_CODE (λ start table offset. IsEntryPlace table offset) place) (λ image place c. IsRestShown image c ⊎ IsEntryShown (entry_at image place) c)
+shown rule.InitOffset = OfImage Unpromised (λ image place c. IsInitializerShown image place c)
 shown rule.SignatureBlob = OfImage Unpromised (λ image place c. ShowsSignature image place c.value c.limit IsSuperblobShown (λ start. IsBlobShown))
 shown rule.SignatureDirectory = OfImage Unpromised (λ image place c. ShowsSignature image place c.value c.limit (λ signature value limit. (value ≡ 0) × (limit ≡ 1)) (λ start signature k. IsUnsoundShown start (bytes_at signature k)))
 shown rule.SignatureWhole = OfImage Unpromised (λ image place c. ShowsSignature image place c.value c.limit (λ signature value limit. ⊥) IsLimitShown)
 shown rule.SymbolLibrary = OfImage Unpromised (λ image place c. (c.value ≡ library_ordinal (symbol_at image place)) × (c.limit ≡ library_count image))
 shown rule.SymbolValue = OfImage Unpromised (λ image place c. (c.value ≡ (symbol_at image place).value) × (c.limit ≡ 0))
 shown rule.SymbolIndirect = OfImage Unpromised (λ image place c. c.value ≡ (symbol_at image place).value)
+shown rule.IndirectRange = OfImage Unpromised (λ image place c. IsIndirectShown image place c)
+shown rule.ObsoleteTable = OfImage Unpromised (λ image place c. IsCountShown image place c.value × (c.limit ≡ 0))
 shown rule.Relocation = OfImage Unpromised (λ image place c. IsRelocationShown (relocation_at image place) c)
 shown rule.Thread = OfImage HasCommand (λ image place c. IsThreadShown image place c)
 shown rule.CommandContent = OfImage HasCommand (λ image place c. c.value ≡ command_size image place)
 shown rule.SignatureMissing = OfImage HasStart (λ image place c. (place ≡ 0) × (c.value ≡ 0) × (c.limit ≡ 1))
+shown rule.SignatureExecutable = OfImage Unpromised (λ image place c. Share c)
 shown rule.DirectoryRepeated = OfImage Unpromised (λ image place c. IsRepeatShown image place c.value × (c.limit ≡ c.value) × IsBefore c)
-shown rule.SignatureSlack = OfImage Unpromised (λ image place c. IsByteShown image place c)
+shown rule.SignatureSlack = OfImage (λ image place. HasByte image place × InTable image loader.LC_CODE_SIGNATURE (λ start signature offset. Unit {0}) place) (λ image place c. IsByteShown image place c)
 shown rule.SignatureHash = OfImage Unpromised (λ image place c. ShowsHash image place c.value c.limit)

@@ -5,7 +5,8 @@ use Rattle.std.specs.List.{sum_by}
 use Rattle.std.specs.Option.{unwrap_or}
 use Rattle.macho_fields.specs.Field.{field}
 use Rattle.macho_fields.specs.Image.{command_cmd, command_size, commands_of}
-use Rattle.macho_fields.specs.Segment.{vmaddr, vmsize, fileoff, filesize, section_address, section_size, section_offset, reloff, nreloc}
+use Rattle.macho_image.specs.Segment.{reserved1, reserved2}
+use Rattle.macho_fields.specs.Segment.{vmaddr, vmsize, fileoff, filesize, section_address, section_size, section_offset, section_flags, reloff, nreloc}
 use Rattle.macho_fields.specs.Universal.{FileSlice}
 use Rattle.macho_fields.specs.declared.bytes.Order.TheVariants.{Little}
 use Rattle.macho_fields.specs.declared.load_command.TableFields.{TableFields}
@@ -157,6 +158,9 @@ pub record IsSectionRow (image : List ℕ) (section : SectionAt) : Type 0 where
   pub file_start : section.row.offset ≡ section_offset image section.place
   pub relocs : section.row.reloff ≡ reloff image section.place
   pub reloc_count : section.row.nreloc ≡ nreloc image section.place
+  pub flags : section.row.flags ≡ section_flags image section.place
+  pub reserved1 : section.row.reserved1 ≡ reserved1 image section.place
+  pub reserved2 : section.row.reserved2 ≡ reserved2 image section.place
 
 -- the section that has a place, with its fields
 pub record IsSectionFound (image : List ℕ) (place : ℕ) (section : SectionAt) : Type 0 where

@@ -2,13 +2,14 @@
 use Rattle.std.specs.Prelude.{◌≡◌, ℕ, ◌+◌, ◌≤◌, ◌⊎◌, List, length, Option, Some, None, IfSome, IsSome, IsSomeAnd, MatchOption, slice_get}
 use Rattle.std.specs.Option.{option_map}
 use Rattle.macho_fields.specs.Bytes.{bytes_of}
-use Rattle.macho_fields.specs.Field.{part}
 use Rattle.macho_fields.specs.Universal.{FileSlice, slices_of}
 use Rattle.macho_fields.specs.declared.rule.Rule.{Rule}
 use Rattle.macho_exports.specs.ExportTrie.{node_at}
+use Rattle.macho_exports.specs.Exports.{export_table}
 use Rattle.macho_signature.specs.Superblobs.{entry_offset}
 use Rattle.macho_spans.specs.Span.{end_of}
 use Rattle.macho_explain.specs.Compared.{Shown, OfFile, OfImage, shown, node_bounds}
+use Rattle.macho_explain.specs.Wholes.{IsWhole}
 use Rattle.macho_explain.specs.Explain.{all_loads, image_of, IsCommandAt, IsSectionAt, IsSymbolAt}
 use Rattle.macho_explain.specs.declared.explanation.Explanation.{Explanation}
 use Rattle.macho_explain.specs.declared.exports.NodeHere.{NodeHere}
@@ -104,11 +105,11 @@ IsUnexplained rule file place = LacksAs (shown rule) file place
 
 -- What only proofs need.
 
--- a node of the export trie at the place, if it ends in it
+-- a place of the export trie, and the node there, if one ends in it
 pub record IsNodeHere (sliced : Sliced) (node : NodeHere) : Type 0 where
   pub spot : IsSpot sliced node.at
+  pub whole : IsWhole (image_in sliced) (export_table (image_in sliced)) node.table.span (bytes_of node.trie)
   pub place : sliced.place ≡ node.table.span.start + node.offset
-  pub trie : bytes_of node.trie ≡ part node.table.span.start node.table.span.len (image_in sliced)
   pub bounds : node.bounds ≡ option_map node_bounds (node_at (bytes_of node.trie) node.offset)
   pub inside : IfSome node.bounds (λ bounds. end_of bounds.0 ≤ length (bytes_of node.trie))
 

@@ -1,6 +1,9 @@
 pub mod Compared
 pub mod Explain
 pub mod Explained
+pub mod Judged
+pub mod Linked
 pub mod Parts
 pub mod Seals
 pub mod Signatures
+pub mod Wholes

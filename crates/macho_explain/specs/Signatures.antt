@@ -1,17 +1,14 @@
 -- What an explanation shows of the rules of code signatures: two numbers that are not as the rule says, of the table of
 -- LC_CODE_SIGNATURE. An offset is one in it. (docs/reference/explain.md; cs_blobs.h: CS_SuperBlob, CS_CodeDirectory)
-use Rattle.std.specs.Prelude.{◌≡◌, ◌≢◌, ℕ, ◌+◌, ◌*◌, ◌≤◌, ◌<◌, ◌⊎◌, List, length, Some, None, slice_get, IsSomeAnd}
-use Rattle.macho_fields.specs.Field.{part}
-use Rattle.macho_fields.specs.Image.{command_cmd}
+use Rattle.std.specs.Prelude.{◌≡◌, ◌≢◌, ℕ, ◌+◌, ◌*◌, ◌≤◌, ◌<◌, ◌⊎◌, List, length, None, IsSomeAnd}
 use Rattle.macho_fields.specs.declared.header.loader.TheConstants as loader
-use Rattle.macho_spans.specs.Span.{end_of}
 use Rattle.macho_spans.specs.declared.span.Span.{Span}
 use Rattle.macho_signature.specs.CodeDirectories.{code_directory, fields_size, scatter_offset, size_of_hash, slots_of, version_of, HasName}
 use Rattle.macho_signature.specs.Signature.{bytes_at}
 use Rattle.macho_signature.specs.Superblobs.{big_word, blob_at, blob_count, blob_end, entry_offset, least_offset, superblob_at}
 use Rattle.macho_signature.specs.declared.code_directory.CodeDirectory.{CodeDirectory}
 use Rattle.macho_fields.specs.declared.header.cs_blobs.TheConstants as cs
-use Rattle.macho_explain.specs.Explain.{all_loads, word_at}
+use Rattle.macho_explain.specs.Wholes.{named_table, IsWhole}
 
 -- what is shown is two numbers that have to be the same, and are not; one that is below the limit, and may not be; or
 -- one above it
@@ -67,8 +64,14 @@ abbrev pub IsNameShown : List ℕ → CodeDirectory → ℕ → Type 0
 IsNameShown blob directory name =
     ((name ≡ directory.ident_offset) × ¬ HasName blob name) ⊎ ((name ≡ directory.team_offset) × ¬ HasName blob name)
 
+-- where the hashes before encryption end, or the linkage, in a blob of so many bytes
+abbrev pub AreEndsShown : ℕ → CodeDirectory → ℕ → ℕ → Type 0
+AreEndsShown size directory value limit =
+    IsAbove value limit (directory.pre_encrypt_offset + directory.code_slots * directory.hash_size) size
+    ⊎ IsAbove value limit (directory.linkage_offset + directory.linkage_size) size
+
 -- why it is unsound, in a signature that begins at a place of the image: its hashes, its pages, up to where it covers
--- the image, or its names
+-- the image, its names, or what else lies in it
 abbrev pub IsSoundnessShown : ℕ → List ℕ → CodeDirectory → ℕ → ℕ → Type 0
 IsSoundnessShown start blob directory value limit =
     AreHashesShown (length blob) directory value limit
@@ -76,6 +79,7 @@ IsSoundnessShown start blob directory value limit =
     ⊎ IsAbove value limit directory.limit start
     ⊎ Differ value limit directory.code_slots (slots_of directory.page_size directory.limit)
     ⊎ (IsNameShown blob directory value × (limit ≡ length blob))
+    ⊎ AreEndsShown (length blob) directory value limit
 
 -- of a blob that should be a sound one
 abbrev pub IsUnsoundShown : ℕ → List ℕ → ℕ → ℕ → Type 0
@@ -90,24 +94,9 @@ IsLimitShown start signature k value limit =
 
 -- The rules
 
--- the table that a linkedit_data_command with this cmd names: dataoff at 8, datasize at 12
-abbrev pub IsTableOfCommand : List ℕ → ℕ → Span → Type 0
-IsTableOfCommand image cmd table =
-    (index : ℕ) × (command : ℕ) × (slice_get (all_loads image) index ≡ Some command)
-    × (command_cmd image command ≡ cmd)
-    × (table.start ≡ word_at image (command + 8)) × (table.len ≡ word_at image (command + 12))
-
--- its size alone
-abbrev pub IsSizeOfTable : List ℕ → ℕ → ℕ → Type 0
-IsSizeOfTable image cmd size =
-    (index : ℕ) × (command : ℕ) × (slice_get (all_loads image) index ≡ Some command)
-    × (command_cmd image command ≡ cmd) × (size ≡ word_at image (command + 12))
-
 -- the signature of an image, which lies in it
 abbrev pub IsSignatureOf : List ℕ → Span → List ℕ → Type 0
-IsSignatureOf image table signature =
-    IsTableOfCommand image loader.LC_CODE_SIGNATURE table × (end_of table ≤ length image)
-    × (signature ≡ part table.start table.len image)
+IsSignatureOf image table signature = IsWhole image (named_table image loader.LC_CODE_SIGNATURE) table signature
 
 -- what is shown of a rule that is broken at a place of the image: at the first byte of its signature P, and at the entry
 -- k of one that begins at a place of the image Q

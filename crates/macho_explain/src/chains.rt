@@ -1,10 +1,13 @@
 //! The rules of the table of chained fixups. (`mach-o/fixup-chains.h`)
 
-ghost use Rattle.std.specs.Prelude.{◌≡◌, ◌<◌, IfSome};
+ghost use Rattle.std.specs.Prelude.{◌≡◌, ◌≢◌, ◌<◌, ℕ, List, IfNone, IfSome, MatchOption};
 ghost use Rattle.macho_fields.specs.Bytes.{bytes_of};
 ghost use Rattle.macho_fields.specs.declared.rule.Rule.{Rule};
 ghost use Rattle.macho_chains.specs.ChainImports.{ImportsEndPast};
-ghost use Rattle.macho_explain.specs.Compared.{IsChainSize};
+ghost use Rattle.macho_chains.specs.declared.chain_header.ChainHeader.{ChainHeader};
+ghost use Rattle.macho_spans.specs.declared.span.Span.{Span};
+ghost use Rattle.macho_explain.specs.Compared.{AreChains, IsChainSize};
+ghost use Rattle.macho_explain.specs.Wholes.{Opens};
 ghost use Rattle.macho_explain.specs.Explained.{Explains, ExplainsIn, IsSpot};
 
 use crate::command::command_here;
@@ -13,7 +16,8 @@ use crate::explanation::Explanation;
 use crate::part::{Part, PartKind, below_zero, clamped};
 use crate::segment::segment_at;
 use crate::sliced::Sliced;
-use crate::table::{Bounded, data_table};
+use crate::table::Bounded;
+use crate::whole::{Whole, data_table, whole_table};
 use macho_chains::chain_header::ChainHeader;
 use macho_chains::chain_imports::{Ordinal, name_size};
 use macho_chains::chain_starts::{SegmentStarts, segment_count};
@@ -35,10 +39,13 @@ pub(crate) struct Chains<'a> {
 
 // The table of chained fixups, if its header can be read.
 pub(crate) fn chains_of<'a>(sliced: &Sliced<'a>) -> Option<Chains<'a>>
-    ensures { IfSome result (λ chains. IsChainSize (bytes_of sliced.now.held.bytes) chains.table.span.len) }
+    ensures size { IfSome result (λ chains. IsChainSize (bytes_of sliced.now.held.bytes) chains.table.span.len) }
+    ensures chains { MatchOption result
+        (Opens (bytes_of sliced.now.held.bytes) → (table : Span) (bytes : List ℕ) (header : ChainHeader)
+        → ¬ AreChains (bytes_of sliced.now.held.bytes) table bytes header)
+        (λ chains. AreChains (bytes_of sliced.now.held.bytes) chains.table.span (bytes_of chains.bytes) chains.header) }
 {
-    let table = data_table(sliced, LC_DYLD_CHAINED_FIXUPS)?;
-    let bytes = Bytes::new(sliced.held.bytes.part(table.span)?);
+    let Whole { table, bytes } = whole_table(sliced, LC_DYLD_CHAINED_FIXUPS)?;
     let header = ChainHeader::read(bytes)?;
     Some(Chains {
         table,
@@ -48,7 +55,9 @@ pub(crate) fn chains_of<'a>(sliced: &Sliced<'a>) -> Option<Chains<'a>>
 }
 
 // The header of a table that begins at a place, or all of a table that has fewer bytes.
-pub(crate) fn header_at(sliced: &Sliced, table: &Bounded, place: u64) -> Option<Part> {
+pub(crate) fn header_at(sliced: &Sliced, table: &Bounded, place: u64) -> Option<Part>
+    ensures { IfNone result (place ≢ table.now.span.start) }
+{
     if place != table.span.start {
         return None;
     }
@@ -63,7 +72,7 @@ pub(crate) fn chain_header(sliced: &Sliced) -> Option<Explanation>
 {
     let table = data_table(sliced, LC_DYLD_CHAINED_FIXUPS)?;
     let size = table.span.len;
-    if size == 0 && sliced.place == table.command {
+    if size == 0 {
         let (at, _) = command_here(sliced)?;
         return Some(at.shows(Conflict::numbers(size, DYLD_CHAINED_FIXUPS_HEADER_SIZE)));
     }

@@ -3,7 +3,7 @@
 ghost use Rattle.std.specs.Prelude.{◌≡◌, ◌<◌, IfSome, MatchOption};
 ghost use Rattle.macho_fields.specs.Bytes.{bytes_of};
 ghost use Rattle.macho_fields.specs.declared.rule.Rule.{Rule};
-ghost use Rattle.macho_explain.specs.Compared.{HasCommand};
+ghost use Rattle.macho_explain.specs.Compared.{HasCommand, IsCountShown};
 ghost use Rattle.macho_explain.specs.Explained.{ExplainsIn, IsSpot};
 ghost use Rattle.macho_explain.specs.Explain.{IsWalked, MeetsLimit};
 ghost use Rattle.macho_explain.specs.Parts.{IsBefore};
@@ -18,9 +18,14 @@ use crate::spot::Spot;
 use crate::table::{symtab_table, table_by, table_with, tables_of};
 use crate::walk::{Sought, Walked, walk_end, walk_to};
 use macho_commands::content_of;
+use macho_fields::header::loader::dysymtab_command::{
+    NEXTREFSYMS, NEXTREL, NLOCREL, NMODTAB, NTOC,
+};
 use macho_fields::header::loader::entry_point_command::ENTRYOFF;
 use macho_fields::header::loader::load_command::CMDSIZE;
-use macho_fields::header::loader::{LC_STR_OFFSET, LC_THREAD, LC_UNIXTHREAD, LOAD_COMMAND_SIZE};
+use macho_fields::header::loader::{
+    LC_DYLD_CHAINED_FIXUPS, LC_STR_OFFSET, LC_THREAD, LC_UNIXTHREAD, LOAD_COMMAND_SIZE,
+};
 use macho_fields::{Span, structure_of};
 use macho_rows::load::Load;
 
@@ -244,6 +249,45 @@ pub(crate) fn symbol_group(sliced: &Sliced) -> Option<Explanation>
                 second: symbols,
                 ..Conflict::alone(group, span.start + span.len, count)
             }));
+        }
+    }
+    None
+}
+
+// The first table of `LC_DYSYMTAB` that only older loaders follow, and how many entries it has; if it has relocations,
+// also the command with the fixups that newer loaders follow.
+#[inline(never)]
+pub(crate) fn obsolete_table(sliced: &Sliced) -> Option<Explanation>
+    ensures { ExplainsIn Rule.ObsoleteTable sliced.now result }
+{
+    let (at, walked) = command_here(sliced)?;
+    let (index, count) = first_obsolete(sliced)?;
+    let table = table_with(sliced, walked.load, index)?;
+    let fixups = match index {
+        0..=2 => None,
+        _ => walk_to(sliced.held.bytes, Sought::OfKind(LC_DYLD_CHAINED_FIXUPS)),
+    };
+    Some(at.shows(Conflict {
+        second: fixups.map(|walked| sliced.command(&walked)),
+        ..Conflict::alone(table.part, count, 0)
+    }))
+}
+
+// The index of the first such table of the command at the place, and how many entries it has.
+fn first_obsolete(sliced: &Sliced) -> Option<(u64, u64)>
+    ensures { IfSome result (λ found.
+        IsCountShown (bytes_of sliced.now.held.bytes) sliced.now.place found.1) }
+{
+    for (index, field) in [
+        (0, NTOC),
+        (1, NMODTAB),
+        (2, NEXTREFSYMS),
+        (4, NEXTREL),
+        (5, NLOCREL),
+    ] {
+        let count = u64::from(sliced.word(sliced.place.saturating_add(field)));
+        if count > 0 {
+            return Some((index, count));
         }
     }
     None

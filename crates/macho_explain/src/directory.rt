@@ -1,9 +1,9 @@
 //! Why a blob of a code signature is no sound code directory. (`cs_blobs.h`: `CS_CodeDirectory`)
 
-ghost use Rattle.std.specs.Prelude.{IfSome};
+ghost use Rattle.std.specs.Prelude.{◌≡◌, ◌⊎◌, length, IfSome};
 ghost use Rattle.macho_fields.specs.Bytes.{bytes_of};
 ghost use Rattle.macho_signature.specs.Signature.{bytes_at};
-ghost use Rattle.macho_explain.specs.Signatures.{AreHashesShown, IsFormShown, IsNameShown, IsSoundnessShown, IsUnsoundShown};
+ghost use Rattle.macho_explain.specs.Signatures.{AreEndsShown, AreHashesShown, IsFormShown, IsNameShown, IsSoundnessShown, IsUnsoundShown};
 
 use crate::conflict::Conflict;
 use crate::numbers::Numbers;
@@ -65,7 +65,7 @@ fn form_numbers(blob: Bytes) -> Option<Numbers>
     Numbers::above(u64::from(word(blob, SCATTER_OFFSET)?), 0)
 }
 
-// Why a code directory is unsound: its hashes, up to where it covers the image, or its names.
+// Why a code directory is unsound: its hashes, up to where it covers the image, its names, or what else lies in it.
 fn unsound(part: Part, table: &Bounded, blob: Bytes, directory: CodeDirectory) -> Option<Conflict>
     ensures { IfSome result (λ c. IsSoundnessShown table.now.span.start (bytes_of blob.entry) directory
         c.value c.limit) }
@@ -85,8 +85,8 @@ fn unsound(part: Part, table: &Bounded, blob: Bytes, directory: CodeDirectory) -
     if u64::from(directory.code_slots) != slots {
         return Some(Conflict::alone(part, u64::from(directory.code_slots), slots));
     }
-    let name = endless_name(blob, directory)?;
-    Some(Conflict::alone(part, u64::from(name), blob.len()))
+    let numbers = content_numbers(blob, directory)?;
+    Some(Conflict::alone(part, numbers.value, numbers.limit))
 }
 
 // Why the hashes of a code directory of so many bytes are unsound: their type or size, or where they lie.
@@ -108,6 +108,39 @@ fn hash_numbers(directory: CodeDirectory, size: u64) -> Option<Numbers>
         return Numbers::above(special, start);
     }
     Numbers::above(start + u64::from(directory.code_slots) * hash_size, size)
+}
+
+// What of a code directory does not end in its blob, and the size of that: a name, or what else lies in it.
+fn content_numbers(blob: Bytes, directory: CodeDirectory) -> Option<Numbers>
+    ensures { IfSome result (λ n. (IsNameShown (bytes_of blob.entry) directory n.value
+        × (n.limit ≡ length (bytes_of blob.entry)))
+        ⊎ AreEndsShown (length (bytes_of blob.entry)) directory n.value n.limit) }
+{
+    if let Some(numbers) = name_numbers(blob, directory) {
+        return Some(numbers);
+    }
+    end_numbers(directory, blob.len())
+}
+
+// A name of a code directory that does not end in it, and the size of its blob.
+fn name_numbers(blob: Bytes, directory: CodeDirectory) -> Option<Numbers>
+    ensures { IfSome result (λ n. IsNameShown (bytes_of blob.entry) directory n.value
+        × (n.limit ≡ length (bytes_of blob.entry))) }
+{
+    let name = endless_name(blob, directory)?;
+    let value = u64::from(name);
+    let limit = blob.len();
+    Some(Numbers { value, limit })
+}
+
+// Where the hashes before encryption or the linkage of a code directory of so many bytes end, past these.
+fn end_numbers(directory: CodeDirectory, size: u64) -> Option<Numbers>
+    ensures { IfSome result (λ n. AreEndsShown size directory n.value n.limit) }
+{
+    if !directory.has_earlier_hashes(size) {
+        return Numbers::above(directory.earlier_hashes_end(), size);
+    }
+    Numbers::above(directory.linkage_end(), size)
 }
 
 // Where a name of a code directory begins that does not end in its blob.

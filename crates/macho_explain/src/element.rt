@@ -146,11 +146,10 @@ pub(crate) fn stray_byte(sliced: &Sliced) -> Option<Explanation>
     ensures { ExplainsIn Rule.StrayByte sliced.now result }
 {
     let (at, byte) = sliced.byte()?;
-    let image = sliced.held.open()?;
-    let found = segments_beside(&image, sliced.place);
+    let (first, second) = segments_beside(sliced);
     Some(at.shows(Conflict {
-        first: segment_part(sliced, &image, found.before()),
-        second: segment_part(sliced, &image, found.after()),
+        first,
+        second,
         ..Conflict::numbers(byte, 0)
     }))
 }
@@ -161,35 +160,46 @@ pub(crate) fn unclaimed_byte(sliced: &Sliced) -> Option<Explanation>
     ensures { ExplainsIn Rule.UnclaimedByte sliced.now result }
 {
     let (at, byte) = sliced.byte()?;
-    let image = sliced.held.open()?;
-    let found = elements_beside(&image, sliced.place);
+    let (first, second) = elements_beside(sliced);
     Some(at.shows(Conflict {
-        first: part_at(sliced, &image, found.before()),
-        second: part_at(sliced, &image, found.after()),
+        first,
+        second,
         ..Conflict::numbers(byte, 0)
     }))
 }
 
-// The segments beside a place.
-fn segments_beside(image: &Image, place: u64) -> Neighbors {
-    let mut neighbors = Neighbors::of(place);
+// The segments before and after the place.
+fn segments_beside(sliced: &Sliced) -> (Option<Part>, Option<Part>) {
+    let Some(image) = sliced.held.open() else {
+        return (None, None);
+    };
+    let mut found = Neighbors::of(sliced.place);
     let mut index: u64 = 0;
     for segment in image.segments() {
-        neighbors.note(segment.file_part(), index);
+        found.note(segment.file_part(), index);
         index = index.saturating_add(1);
     }
-    neighbors
+    (
+        segment_part(sliced, &image, found.before()),
+        segment_part(sliced, &image, found.after()),
+    )
 }
 
-// The elements beside a place.
-fn elements_beside(image: &Image, place: u64) -> Neighbors {
-    let mut neighbors = Neighbors::of(place);
+// The elements before and after the place.
+fn elements_beside(sliced: &Sliced) -> (Option<Part>, Option<Part>) {
+    let Some(image) = sliced.held.open() else {
+        return (None, None);
+    };
+    let mut found = Neighbors::of(sliced.place);
     let mut index: u64 = 0;
-    for element in Elements::of(image) {
-        neighbors.note(element.span, index);
+    for element in Elements::of(&image) {
+        found.note(element.span, index);
         index = index.saturating_add(1);
     }
-    neighbors
+    (
+        part_at(sliced, &image, found.before()),
+        part_at(sliced, &image, found.after()),
+    )
 }
 
 // The segment with this index, as a part.

@@ -1,10 +1,11 @@
 //! The rules of a file, over the entries of its table and its slices. (`mach-o/fat.h`)
 
-ghost use Rattle.std.specs.Prelude.{◌≡◌, ℕ, ◌+◌, ◌*◌, ◌^◌, ◌<◌, ◌≤◌, length, slice_get, IfSome, Some};
+ghost use Rattle.std.specs.Prelude.{◌≡◌, ◌↔◌, ℕ, ◌+◌, ◌*◌, ◌^◌, ◌<◌, ◌≤◌, length, slice_get, IfSome, IsTrue, MatchOption, Some};
 ghost use Rattle.macho_fields.specs.Bytes.{bytes_of};
-ghost use Rattle.macho_fields.specs.Universal.{slices_of};
+ghost use Rattle.macho_fields.specs.Universal.{slices_of, IsUniversal};
 ghost use Rattle.macho_fields.specs.declared.rule.Rule.{Rule};
 ghost use Rattle.macho_fat.specs.Slices.{slice_of};
+ghost use Rattle.macho_explain.specs.Compared.{HasCount};
 ghost use Rattle.macho_explain.specs.Explained.{ExplainsFile};
 
 use crate::conflict::{Conflict, shared};
@@ -69,7 +70,7 @@ pub(crate) fn fat_empty(file: Bytes, place: u64) -> Option<Explanation>
 
 // What there is of the header of a universal file, by the place of its second field.
 fn header_here(file: Bytes, place: u64) -> Option<Spot>
-    ensures { IfSome result (λ at. place ≡ 4) }
+    ensures { MatchOption result (¬ HasCount (bytes_of file.entry) place) (λ at. place ≡ 4) }
 {
     if place != NFAT_ARCH || !is_universal(file) {
         return None;
@@ -193,18 +194,25 @@ pub(crate) fn fat_stray_byte(file: Bytes, place: u64) -> Option<Explanation>
     ensures { ExplainsFile Rule.FatStrayByte (bytes_of file.entry) place result }
 {
     let byte = file.u8_at(place)?;
-    let mut neighbors = Neighbors::of(place);
-    for index in 0..entry_count(file) {
-        let slice = slice_with_index(file, index)?;
-        neighbors.note(slice.span, u64::from(index));
-    }
-    let before = part_with(file, neighbors.before());
+    let found = slices_beside(file, place);
     let at = Spot::of(None, structure(PartKind::Byte, place, 1, None));
     Some(at.shows(Conflict {
-        first: before.or(Some(fat_table(file))),
-        second: part_with(file, neighbors.after()),
+        first: part_with(file, found.before()).or(Some(fat_table(file))),
+        second: part_with(file, found.after()),
         ..Conflict::numbers(u64::from(byte), 0)
     }))
+}
+
+// The slices beside a place.
+fn slices_beside(file: Bytes, place: u64) -> Neighbors {
+    let mut neighbors = Neighbors::of(place);
+    for index in 0..entry_count(file) {
+        let Some(slice) = slice_with_index(file, index) else {
+            return neighbors;
+        };
+        neighbors.note(slice.span, u64::from(index));
+    }
+    neighbors
 }
 
 // The slice with an index, as a part.
@@ -323,8 +331,10 @@ fn entry_count(file: Bytes) -> u32 {
 }
 
 // Whether the file begins as a universal one.
-fn is_universal(file: Bytes) -> bool {
-    matches!(big_word(file, 0), FAT_MAGIC | FAT_MAGIC_64)
+fn is_universal(file: Bytes) -> bool
+    ensures { IsTrue result ↔ IsUniversal (bytes_of file.entry) }
+{
+    matches!(file.u32_at(Order::Big, 0), Some(FAT_MAGIC | FAT_MAGIC_64))
 }
 
 // Whether the entries are `fat_arch_64`.

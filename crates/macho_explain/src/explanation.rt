@@ -2,12 +2,14 @@
 
 ghost use Rattle.std.specs.Prelude.{◌≡◌, ◌≤◌, length, MatchOption};
 ghost use Rattle.macho_fields.specs.Bytes.{bytes_of};
-ghost use Rattle.macho_explain.specs.Explained.{ExplainsBy, HasPlace, IsExplained, IsUnexplained};
+ghost use Rattle.macho_explain.specs.Compared.{shown};
+ghost use Rattle.macho_explain.specs.Explained.{ExplainsBy, ExplainsIn, HasPlace, IsExplained, IsUnexplained};
+ghost use Rattle.macho_explain.specs.Judged.{IsOfImage};
 
 use crate::chains::{chain_header, chain_imports, chain_library, chain_starts, chain_total};
 use crate::command::{
     command_content, command_repeated, command_short, command_walk, encrypted_range, entry,
-    function_variants, name, symbol_group, table_range, table_repeated, thread,
+    function_variants, name, obsolete_table, symbol_group, table_range, table_repeated, thread,
 };
 use crate::conflict::Conflict;
 use crate::element::{command_slack, element_overlap, stray_byte, unclaimed_byte};
@@ -16,7 +18,7 @@ use crate::entries::{
     fat_slice_outside, fat_stray_byte, fat_truncated, magic,
 };
 use crate::exports::{export_address, export_library, export_node, export_terminal, export_total};
-use crate::functions::{data_in_code, function_number, function_start};
+use crate::functions::{data_in_code, function_number, function_start, init_offset};
 use crate::header::{
     arch_mismatch, commands_end, commands_outside, dylib_id, file_type, header_home,
     header_segment, header_truncated,
@@ -26,9 +28,10 @@ use crate::part::Part;
 use crate::pointers::{chain_bind, chain_slot};
 use crate::relocation::relocation;
 use crate::seal::{directory_repeated, signature_hash, signature_missing, signature_slack};
-use crate::section::{section_address, section_file, section_relocs};
+use crate::section::{indirect_range, section_address, section_file, section_relocs};
 use crate::segment::{
     segment_address, segment_file, segment_file_overlap, segment_overlap, segment_size,
+    signature_executable,
 };
 use crate::signature::{signature_blob, signature_directory, signature_whole};
 use crate::sliced::{Sliced, image_with};
@@ -64,7 +67,7 @@ pub fn explain(file: &[u8], rule: Rule, place: u64) -> Option<Explanation>
     Some(placed(found, place, len))
 }
 
-// Explains a rule by the file, or by the image that has the place: each rule has its line.
+// Explains a rule by the file, or by the image that has the place.
 fn explain_in(bytes: Bytes, rule: Rule, place: u64, image: Option<Sliced>) -> Option<Explanation>
     ensures { ExplainsBy rule (bytes_of bytes.entry) place image.entry result }
 {
@@ -78,78 +81,103 @@ fn explain_in(bytes: Bytes, rule: Rule, place: u64, image: Option<Sliced>) -> Op
         Rule::FatDuplicate => fat_duplicate(bytes, place),
         Rule::FatSliceMagic => fat_slice_magic(bytes, place),
         Rule::FatEmpty => fat_empty(bytes, place),
-        Rule::HeaderTruncated => header_truncated(&image?),
-        Rule::ArchMismatch => arch_mismatch(&image?),
-        Rule::FileType => file_type(&image?),
-        Rule::CommandsOutside => commands_outside(&image?),
-        Rule::CommandWalk => command_walk(&image?),
-        Rule::CommandShort => command_short(&image?),
-        Rule::CommandRepeated => command_repeated(&image?),
-        Rule::DylibId => dylib_id(&image?),
-        Rule::Name => name(&image?),
-        Rule::SegmentAddress => segment_address(&image?),
-        Rule::SegmentSize => segment_size(&image?),
-        Rule::SegmentFile => segment_file(&image?),
-        Rule::SegmentOverlap => segment_overlap(&image?),
-        Rule::SectionAddress => section_address(&image?),
-        Rule::SectionFile => section_file(&image?),
-        Rule::SectionRelocs => section_relocs(&image?),
-        Rule::TableRange => table_range(&image?),
-        Rule::SymbolGroup => symbol_group(&image?),
-        Rule::SymbolName => symbol_name(&image?),
-        Rule::SymbolSection => symbol_section(&image?),
-        Rule::IndirectIndex => indirect_index(&image?),
-        Rule::Entry => entry(&image?),
         Rule::FatStrayByte => fat_stray_byte(bytes, place),
-        Rule::CommandsEnd => commands_end(&image?),
-        Rule::HeaderSegment => header_segment(&image?),
-        Rule::SegmentFileOverlap => segment_file_overlap(&image?),
-        Rule::ElementOverlap => element_overlap(&image?),
-        Rule::StrayByte => stray_byte(&image?),
-        Rule::EncryptedRange => encrypted_range(&image?),
-        Rule::CommandSlack => command_slack(&image?),
-        Rule::UnclaimedByte => unclaimed_byte(&image?),
-        Rule::TableRepeated => table_repeated(&image?),
-        Rule::FunctionVariants => function_variants(&image?),
-        Rule::TableHome => table_home(&image?),
-        Rule::HeaderHome => header_home(&image?),
-        Rule::RebaseOpcode => rebase_opcode(&image?),
-        Rule::RebaseSlot => rebase_slot(&image?),
-        Rule::RebaseTotal => rebase_total(&image?),
-        Rule::BindOpcode => bind_opcode(&image?),
-        Rule::BindLibrary => bind_library(&image?),
-        Rule::BindSymbol => bind_symbol(&image?),
-        Rule::BindSlot => bind_slot(&image?),
-        Rule::BindTotal => bind_total(&image?),
-        Rule::BindNames => bind_names(&image?),
-        Rule::ChainHeader => chain_header(&image?),
-        Rule::ChainStarts => chain_starts(&image?),
-        Rule::ChainImports => chain_imports(&image?),
-        Rule::ChainTotal => chain_total(&image?),
-        Rule::ChainLibrary => chain_library(&image?),
-        Rule::ChainSlot => chain_slot(&image?),
-        Rule::ChainBind => chain_bind(&image?),
-        Rule::ExportNode => export_node(&image?),
-        Rule::ExportTotal => export_total(&image?),
-        Rule::ExportTerminal => export_terminal(&image?),
-        Rule::ExportLibrary => export_library(&image?),
-        Rule::ExportAddress => export_address(&image?),
-        Rule::FunctionNumber => function_number(&image?),
-        Rule::FunctionStart => function_start(&image?),
-        Rule::DataInCode => data_in_code(&image?),
-        Rule::SignatureBlob => signature_blob(&image?),
-        Rule::SignatureDirectory => signature_directory(&image?),
-        Rule::SignatureWhole => signature_whole(&image?),
-        Rule::SymbolLibrary => symbol_library(&image?),
-        Rule::SymbolValue => symbol_value(&image?),
-        Rule::SymbolIndirect => symbol_indirect(&image?),
-        Rule::Relocation => relocation(&image?),
-        Rule::Thread => thread(&image?),
-        Rule::CommandContent => command_content(&image?),
-        Rule::SignatureMissing => signature_missing(&image?),
-        Rule::DirectoryRepeated => directory_repeated(&image?),
-        Rule::SignatureSlack => signature_slack(&image?),
-        Rule::SignatureHash => signature_hash(&image?),
+        _ => explain_image(rule, &image?),
+    }
+}
+
+// Explains a rule that is judged over each image. Each has its line here; a rule that is judged over the file has its
+// line above.
+fn explain_image(rule: Rule, image: &Sliced) -> Option<Explanation>
+    requires { IsOfImage (shown rule) }
+    ensures { ExplainsIn rule image.now result }
+{
+    match rule {
+        Rule::Magic
+        | Rule::FatTruncated
+        | Rule::FatSliceOutside
+        | Rule::FatSliceInTable
+        | Rule::FatAlign
+        | Rule::FatOverlap
+        | Rule::FatDuplicate
+        | Rule::FatSliceMagic
+        | Rule::FatEmpty
+        | Rule::FatStrayByte => None,
+        Rule::HeaderTruncated => header_truncated(image),
+        Rule::ArchMismatch => arch_mismatch(image),
+        Rule::FileType => file_type(image),
+        Rule::CommandsOutside => commands_outside(image),
+        Rule::CommandWalk => command_walk(image),
+        Rule::CommandShort => command_short(image),
+        Rule::CommandRepeated => command_repeated(image),
+        Rule::DylibId => dylib_id(image),
+        Rule::Name => name(image),
+        Rule::SegmentAddress => segment_address(image),
+        Rule::SegmentSize => segment_size(image),
+        Rule::SegmentFile => segment_file(image),
+        Rule::SegmentOverlap => segment_overlap(image),
+        Rule::SectionAddress => section_address(image),
+        Rule::SectionFile => section_file(image),
+        Rule::SectionRelocs => section_relocs(image),
+        Rule::TableRange => table_range(image),
+        Rule::SymbolGroup => symbol_group(image),
+        Rule::SymbolName => symbol_name(image),
+        Rule::SymbolSection => symbol_section(image),
+        Rule::IndirectIndex => indirect_index(image),
+        Rule::Entry => entry(image),
+        Rule::CommandsEnd => commands_end(image),
+        Rule::HeaderSegment => header_segment(image),
+        Rule::SegmentFileOverlap => segment_file_overlap(image),
+        Rule::ElementOverlap => element_overlap(image),
+        Rule::StrayByte => stray_byte(image),
+        Rule::EncryptedRange => encrypted_range(image),
+        Rule::CommandSlack => command_slack(image),
+        Rule::UnclaimedByte => unclaimed_byte(image),
+        Rule::TableRepeated => table_repeated(image),
+        Rule::FunctionVariants => function_variants(image),
+        Rule::TableHome => table_home(image),
+        Rule::HeaderHome => header_home(image),
+        Rule::RebaseOpcode => rebase_opcode(image),
+        Rule::RebaseSlot => rebase_slot(image),
+        Rule::RebaseTotal => rebase_total(image),
+        Rule::BindOpcode => bind_opcode(image),
+        Rule::BindLibrary => bind_library(image),
+        Rule::BindSymbol => bind_symbol(image),
+        Rule::BindSlot => bind_slot(image),
+        Rule::BindTotal => bind_total(image),
+        Rule::BindNames => bind_names(image),
+        Rule::ChainHeader => chain_header(image),
+        Rule::ChainStarts => chain_starts(image),
+        Rule::ChainImports => chain_imports(image),
+        Rule::ChainTotal => chain_total(image),
+        Rule::ChainLibrary => chain_library(image),
+        Rule::ChainSlot => chain_slot(image),
+        Rule::ChainBind => chain_bind(image),
+        Rule::ExportNode => export_node(image),
+        Rule::ExportTotal => export_total(image),
+        Rule::ExportTerminal => export_terminal(image),
+        Rule::ExportLibrary => export_library(image),
+        Rule::ExportAddress => export_address(image),
+        Rule::FunctionNumber => function_number(image),
+        Rule::FunctionStart => function_start(image),
+        Rule::DataInCode => data_in_code(image),
+        Rule::InitOffset => init_offset(image),
+        Rule::SignatureBlob => signature_blob(image),
+        Rule::SignatureDirectory => signature_directory(image),
+        Rule::SignatureWhole => signature_whole(image),
+        Rule::SymbolLibrary => symbol_library(image),
+        Rule::SymbolValue => symbol_value(image),
+        Rule::SymbolIndirect => symbol_indirect(image),
+        Rule::IndirectRange => indirect_range(image),
+        Rule::ObsoleteTable => obsolete_table(image),
+        Rule::Relocation => relocation(image),
+        Rule::Thread => thread(image),
+        Rule::CommandContent => command_content(image),
+        Rule::SignatureMissing => signature_missing(image),
+        Rule::SignatureExecutable => signature_executable(image),
+        Rule::DirectoryRepeated => directory_repeated(image),
+        Rule::SignatureSlack => signature_slack(image),
+        Rule::SignatureHash => signature_hash(image),
     }
 }
 

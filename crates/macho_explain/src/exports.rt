@@ -1,14 +1,15 @@
 //! The rules of the export trie. (`mach-o/loader.h`: `LC_DYLD_EXPORTS_TRIE`, `dyld_info_command`)
 
-ghost use Rattle.std.specs.Prelude.{◌≡◌, ◌+◌, ◌≤◌, length, IfSome, IsTrue};
+ghost use Rattle.std.specs.Prelude.{◌≡◌, ℕ, ◌+◌, ◌≤◌, length, IfSome, IsTrue, MatchOption, None, Some};
 ghost use Rattle.std.specs.Option.{option_map};
 ghost use Rattle.macho_fields.specs.Bytes.{bytes_of};
-ghost use Rattle.macho_fields.specs.Field.{part};
 ghost use Rattle.macho_fields.specs.declared.rule.Rule.{Rule};
 ghost use Rattle.macho_spans.specs.Span.{end_of};
+ghost use Rattle.macho_exports.specs.Exports.{export_table as export_table_of};
 ghost use Rattle.macho_exports.specs.ExportTrie.{node_at as node_at_of};
-ghost use Rattle.macho_explain.specs.Compared.{HasAddress, HasOrdinal, HasExportTarget, IsAddressShown, LeadsTo, flags_shown, node_bounds};
+ghost use Rattle.macho_explain.specs.Compared.{HasAddress, HasNodeAt, HasOrdinal, HasExportTarget, IsAddressShown, LeadsTo, flags_shown, node_bounds};
 ghost use Rattle.macho_explain.specs.Explained.{ExplainsIn, IsNodeHere};
+ghost use Rattle.macho_explain.specs.Wholes.{Opens};
 
 use crate::conflict::Conflict;
 use crate::explanation::Explanation;
@@ -16,14 +17,16 @@ use crate::part::PartKind;
 use crate::segment::{SegmentWith, find_segment};
 use crate::sliced::Sliced;
 use crate::spot::Spot;
-use crate::stream::dyld_info;
-use crate::table::{Bounded, data_table, table_with};
+use crate::table::Bounded;
+use crate::whole::{Whole, bounded, data_table, read_whole};
 use macho_exports::export_trie::{Export, ExportNode, Target};
-use macho_exports::exports::MOST_FLAGS;
+use macho_exports::exports::{MOST_FLAGS, export_table};
 use macho_fields::header::loader::LC_DYLD_EXPORTS_TRIE;
 use macho_fields::{Bytes, Span};
+use macho_image::Image;
 use macho_tables::limits::library_count;
 use macho_tables::numbers::read_uleb;
+use macho_tables::place::dyld_info;
 
 // The index of the exports among the tables of `dyld_info_command`.
 const EXPORTS: u64 = 4;
@@ -41,19 +44,21 @@ struct NodeHere<'a> {
 
 // The node at the place. One that does not end in the trie has all bytes that follow.
 fn node_here<'a>(sliced: &Sliced<'a>) -> Option<NodeHere<'a>>
-    ensures { IfSome result (IsNodeHere sliced.now) }
+    ensures { MatchOption result (¬ HasNodeAt (bytes_of sliced.now.held.bytes) sliced.now.place) (IsNodeHere sliced.now) }
 {
-    let table = export_table(sliced)?;
-    let trie = Bytes::new(sliced.held.bytes.part(table.span)?);
+    let Whole { table, bytes } = read_whole(sliced, trie_table(sliced)?)?;
     let offset = sliced.place.checked_sub(table.span.start)?;
-    let bounds = node_at(trie, offset);
-    let end = bounds.map_or(trie.len(), |bounds| bounds.1);
-    let size = end.checked_sub(offset)?;
+    if offset > bytes.len() {
+        return None;
+    }
+    let bounds = node_at(bytes, offset);
+    let end = bounds.map_or(bytes.len(), |bounds| bounds.1);
+    let size = end.saturating_sub(offset);
     let part = sliced.structure(PartKind::ExportNode, sliced.place, size, None);
     Some(NodeHere {
         at: sliced.at(part),
         table,
-        trie,
+        trie: bytes,
         offset,
         bounds,
     })
@@ -75,7 +80,7 @@ pub(crate) fn export_total(sliced: &Sliced) -> Option<Explanation>
     ensures { ExplainsIn Rule.ExportTotal sliced.now result }
 {
     let node = node_here(sliced)?;
-    let size = node.bounds?.1.checked_sub(node.offset)?;
+    let size = node.bounds?.1.saturating_sub(node.offset);
     let conflict = Conflict::alone(node.table.part, size, node.trie.len());
     Some(node.at.shows(conflict))
 }
@@ -117,12 +122,24 @@ pub(crate) fn export_address(sliced: &Sliced) -> Option<Explanation>
     Some(node.at.shows(Conflict::alone(node.table.part, address, 0)))
 }
 
-// The table of the trie: the data of `LC_DYLD_EXPORTS_TRIE`, and if that has no bytes, the exports of
-// `LC_DYLD_INFO` or `LC_DYLD_INFO_ONLY`.
-fn export_table(sliced: &Sliced) -> Option<Bounded> {
+// The table of the trie.
+fn trie_table(sliced: &Sliced) -> Option<Bounded>
+    ensures { MatchOption result
+        (Opens (bytes_of sliced.now.held.bytes) → export_table_of (bytes_of sliced.now.held.bytes) ≡ None)
+        (λ found. export_table_of (bytes_of sliced.now.held.bytes) ≡ Some found.span) }
+{
+    let image = sliced.held.open()?;
+    let span = export_table(&image)?;
+    let (command, index) = named_by(sliced, &image);
+    Some(bounded(sliced, command, span, index))
+}
+
+// The command that names it, and its index there: the data of `LC_DYLD_EXPORTS_TRIE`, and if that has no bytes, the
+// exports of `LC_DYLD_INFO` or `LC_DYLD_INFO_ONLY`.
+fn named_by(sliced: &Sliced, image: &Image) -> (u64, u64) {
     match data_table(sliced, LC_DYLD_EXPORTS_TRIE) {
-        Some(table) if table.span.len > 0 => Some(table),
-        _ => table_with(sliced, dyld_info(sliced)?, EXPORTS),
+        Some(table) if table.span.len > 0 => (table.command, 0),
+        _ => (dyld_info(image).unwrap_or(0), EXPORTS),
     }
 }
 
@@ -156,7 +173,9 @@ fn flags_in(trie: Bytes, terminal: Span) -> u64
 // The ordinal of the library that has the symbol of a terminal part.
 fn ordinal_in(trie: Bytes, terminal: Span) -> Option<u64>
     requires { end_of terminal ≤ length (bytes_of trie) }
-    ensures { IfSome result (λ ordinal. HasExportTarget (bytes_of trie.entry) terminal (HasOrdinal ordinal)) }
+    ensures { MatchOption result
+        ((ordinal : ℕ) → ¬ HasExportTarget (bytes_of trie.entry) terminal (HasOrdinal ordinal))
+        (λ ordinal. HasExportTarget (bytes_of trie.entry) terminal (HasOrdinal ordinal)) }
 {
     let (export, _) = Export::read(trie, terminal)?;
     match export.target {
@@ -168,8 +187,10 @@ fn ordinal_in(trie: Bytes, terminal: Span) -> Option<u64>
 // The address in a terminal part that no segment has.
 fn address_in(sliced: &Sliced, trie: Bytes, terminal: Span) -> Option<u64>
     requires { end_of terminal ≤ length (bytes_of trie) }
-    ensures { IfSome result (λ address.
-        HasExportTarget (bytes_of trie.entry) terminal (LeadsTo (bytes_of sliced.now.held.bytes) address)) }
+    ensures { MatchOption result
+        (Opens (bytes_of sliced.now.held.bytes)
+        → (address : ℕ) → ¬ HasExportTarget (bytes_of trie.entry) terminal (LeadsTo (bytes_of sliced.now.held.bytes) address))
+        (λ address. HasExportTarget (bytes_of trie.entry) terminal (LeadsTo (bytes_of sliced.now.held.bytes) address)) }
 {
     let base = sliced.held.open()?.base()?;
     let (export, _) = Export::read(trie, terminal)?;

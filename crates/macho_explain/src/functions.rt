@@ -1,23 +1,27 @@
 //! The rules of function starts and of data in code. (`mach-o/loader.h`: `LC_FUNCTION_STARTS`,
 //! `LC_DATA_IN_CODE`)
 
-ghost use Rattle.std.specs.Prelude.{◌≡◌, IfSome};
+ghost use Rattle.std.specs.Prelude.{◌≡◌, ℕ, MatchOption};
 ghost use Rattle.macho_fields.specs.Bytes.{bytes_of};
 ghost use Rattle.macho_fields.specs.declared.rule.Rule.{Rule};
+ghost use Rattle.macho_tables.specs.StartNumbers.{IsStartAt};
 ghost use Rattle.macho_explain.specs.Compared.{IsEntryShown, IsStartShown};
 ghost use Rattle.macho_explain.specs.Explained.{ExplainsIn};
 
 use crate::conflict::Conflict;
 use crate::explanation::Explanation;
-use crate::part::{PartKind, index_of};
+use crate::part::{Part, PartKind, index_of};
 use crate::segment::{SegmentWith, find_segment};
 use crate::sliced::Sliced;
-use crate::table::{Bounded, data_table};
+use crate::table::Bounded;
+use crate::whole::whole_table;
 use macho_fields::header::loader::{
     DATA_IN_CODE_ENTRY_SIZE, DICE_KIND_ABS_JUMP_TABLE32, LC_DATA_IN_CODE, LC_FUNCTION_STARTS,
 };
 use macho_fields::{Bytes, Span};
+use macho_image::Image;
 use macho_tables::data_in_code::{DataInCodeEntry, is_known_kind};
+use macho_tables::init_offsets::{INIT_OFFSET_SIZE, has_offsets};
 use macho_tables::numbers::read_uleb;
 
 // The byte at the place: no number begins there, or it is past the last one and not 0.
@@ -26,8 +30,8 @@ pub(crate) fn function_number(sliced: &Sliced) -> Option<Explanation>
     ensures { ExplainsIn Rule.FunctionNumber sliced.now result }
 {
     let (at, byte) = sliced.byte()?;
-    let table = data_table(sliced, LC_FUNCTION_STARTS)?;
-    Some(at.shows(Conflict::alone(table.part, byte, 0)))
+    let whole = whole_table(sliced, LC_FUNCTION_STARTS)?;
+    Some(at.shows(Conflict::alone(whole.table.part, byte, 0)))
 }
 
 // The number at the place: at the address of its function, no segment has a byte of the file.
@@ -35,35 +39,32 @@ pub(crate) fn function_number(sliced: &Sliced) -> Option<Explanation>
 pub(crate) fn function_start(sliced: &Sliced) -> Option<Explanation>
     ensures { ExplainsIn Rule.FunctionStart sliced.now result }
 {
-    let table = data_table(sliced, LC_FUNCTION_STARTS)?;
-    let numbers = Bytes::new(sliced.held.bytes.part(table.span)?);
+    let whole = whole_table(sliced, LC_FUNCTION_STARTS)?;
     let base = sliced.held.open()?.base()?;
-    let offset = sliced.place.checked_sub(table.span.start)?;
-    let (address, size) = start_at(numbers, base, offset)?;
+    let offset = sliced.place.checked_sub(whole.table.span.start)?;
+    let (address, size) = start_at(whole.bytes, base, offset)?;
     let part = sliced.structure(PartKind::FunctionStart, sliced.place, size, None);
-    Some(
-        sliced
-            .at(part)
-            .shows(start_conflict(sliced, &table, address)),
-    )
+    let conflict = start_conflict(sliced, whole.table.part, address);
+    Some(sliced.at(part).shows(conflict))
 }
 
 // The address of a function, and where the file bytes end of the segment that has it, if one has.
-fn start_conflict(sliced: &Sliced, table: &Bounded, address: u64) -> Conflict
+fn start_conflict(sliced: &Sliced, table: Part, address: u64) -> Conflict
     ensures { result.value ≡ address }
 {
     match find_segment(sliced, SegmentWith::Address(address)) {
         Some(found) => {
             let end = found.row.vmaddr.saturating_add(found.row.filesize);
-            Conflict::of(table.part, sliced.memory(&found), address, end)
+            Conflict::of(table, sliced.memory(&found), address, end)
         }
-        None => Conflict::alone(table.part, address, 0),
+        None => Conflict::alone(table, address, 0),
     }
 }
 
 // The address of the function with the number at an offset of the table, and the size of the number.
 fn start_at(table: Bytes, base: u64, offset: u64) -> Option<(u64, u64)>
-    ensures { IfSome result (λ found. IsStartShown (bytes_of table.entry) base offset found.0) }
+    ensures { MatchOption result ((function : ℕ) → ¬ IsStartAt (bytes_of table.entry) base offset function)
+        (λ found. IsStartShown (bytes_of table.entry) base offset found.0) }
 {
     let mut address = base;
     let mut place = 0;
@@ -72,7 +73,7 @@ fn start_at(table: Bytes, base: u64, offset: u64) -> Option<(u64, u64)>
         if distance == 0 {
             return None;
         }
-        address = address.checked_add(distance)?;
+        address = address.saturating_add(distance);
         place = next;
     }
     let (distance, next) = read_uleb(table, offset)?;
@@ -82,28 +83,65 @@ fn start_at(table: Bytes, base: u64, offset: u64) -> Option<(u64, u64)>
     Some((address.saturating_add(distance), next - offset))
 }
 
-// The table that is no whole entries, or the entry at the place.
+// The section with the offset at the place, which is cut; or the address to which the offset leads, and where the file
+// bytes end of the segment that has it.
+#[inline(never)]
+pub(crate) fn init_offset(sliced: &Sliced) -> Option<Explanation>
+    ensures { ExplainsIn Rule.InitOffset sliced.now result }
+{
+    let (at, _) = sliced.byte()?;
+    let image = sliced.held.open()?;
+    let (section, bytes) = offsets_with(sliced, &image)?;
+    let offset = Span {
+        start: sliced.place,
+        len: INIT_OFFSET_SIZE,
+    };
+    if !offset.inside(&bytes) {
+        return Some(at.shows(Conflict::alone(section, bytes.len, INIT_OFFSET_SIZE)));
+    }
+    let address = image
+        .base()?
+        .saturating_add(u64::from(sliced.word(sliced.place)));
+    Some(at.shows(start_conflict(sliced, section, address)))
+}
+
+// The section whose offsets of initializers have the place, and its bytes.
+fn offsets_with(sliced: &Sliced, image: &Image) -> Option<(Part, Span)> {
+    let mut index: u64 = 0;
+    for section in image.sections() {
+        let bytes = Span {
+            start: section.offset(),
+            len: section.size(),
+        };
+        if bytes.holds(sliced.place) && has_offsets(&section) {
+            let kind = PartKind::SectionBytes;
+            let part = sliced.described(kind, bytes, section.place(), index_of(index));
+            return Some((part, bytes));
+        }
+        index = index.saturating_add(1);
+    }
+    None
+}
+
+// The byte at the place of a table whose last entry is cut, or the entry at the place.
 #[inline(never)]
 pub(crate) fn data_in_code(sliced: &Sliced) -> Option<Explanation>
     ensures { ExplainsIn Rule.DataInCode sliced.now result }
 {
-    let table = data_table(sliced, LC_DATA_IN_CODE)?;
-    let size = table.span.len;
+    let whole = whole_table(sliced, LC_DATA_IN_CODE)?;
+    let (table, size) = (whole.table, whole.table.span.len);
     if size % DATA_IN_CODE_ENTRY_SIZE != 0 {
         let (at, _) = sliced.byte()?;
         let conflict = Conflict::alone(table.part, size, DATA_IN_CODE_ENTRY_SIZE);
         return Some(at.shows(conflict));
     }
-    let past = sliced.place.checked_sub(table.span.start)?;
-    let whole = Span {
-        start: sliced.place,
-        len: DATA_IN_CODE_ENTRY_SIZE,
-    };
-    if past % DATA_IN_CODE_ENTRY_SIZE != 0 || past >= size || !sliced.held.bytes.contains(whole) {
+    let offset = sliced.place.checked_sub(table.span.start)?;
+    if offset % DATA_IN_CODE_ENTRY_SIZE != 0 || offset >= size {
         return None;
     }
-    let index = index_of(past / DATA_IN_CODE_ENTRY_SIZE);
-    let part = sliced.structure(PartKind::DataInCodeEntry, sliced.place, whole.len, index);
+    let index = index_of(offset / DATA_IN_CODE_ENTRY_SIZE);
+    let size = DATA_IN_CODE_ENTRY_SIZE;
+    let part = sliced.structure(PartKind::DataInCodeEntry, sliced.place, size, index);
     let entry = DataInCodeEntry::read(sliced.held.bytes, sliced.place);
     let conflict = entry_conflict(sliced, &table, entry, index);
     Some(sliced.at(part).shows(conflict))

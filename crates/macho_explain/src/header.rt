@@ -56,19 +56,16 @@ pub(crate) fn arch_mismatch(sliced: &Sliced) -> Option<Explanation>
     ensures { ExplainsIn Rule.ArchMismatch sliced.now result }
 {
     let at = header_here(sliced)?;
-    let arch = sliced.slice.arch?;
-    let own = (
+    let own = arch_number((
         sliced.word(CPUTYPE),
         sliced.word(CPUSUBTYPE) & !CPU_SUBTYPE_MASK,
-    );
+    ));
     let entry = entry_part(sliced.file, sliced.index);
-    let conflict = Conflict::of(
-        whole_header(sliced),
-        entry,
-        arch_number(own),
-        arch_number(arch),
-    );
-    Some(at.shows(conflict))
+    let wanted = match sliced.slice.arch {
+        Some(arch) => arch_number(arch),
+        None => 0,
+    };
+    Some(at.shows(Conflict::of(whole_header(sliced), entry, own, wanted)))
 }
 
 // The filetype, which is not read.

@@ -1,4 +1,4 @@
-//! The rule of the home of a table of linked data. (docs/rules/linked.md)
+//! The rule of the home of a table that loaders look for. (docs/rules/linked.md)
 
 ghost use Rattle.std.specs.Prelude.{IfSome};
 ghost use Rattle.macho_fields.specs.Bytes.{bytes_of};
@@ -14,7 +14,9 @@ use crate::part::clamped;
 use crate::segment::{SegmentWith, find_segment};
 use crate::sliced::Sliced;
 use crate::table::{Bounded, table_by, tables_of};
-use macho_fields::header::loader::LC_ENCRYPTION_INFO_64;
+use macho_fields::TableFields;
+use macho_fields::header::loader::dysymtab_command::INDIRECTSYMOFF;
+use macho_fields::header::loader::{LC_DYSYMTAB, LC_ENCRYPTION_INFO_64};
 use macho_image::Image;
 use macho_tables::homes::{has_linkedit, is_home};
 use macho_tables::segment::is_linkedit;
@@ -36,7 +38,8 @@ fn first_homeless(sliced: &Sliced, image: &Image, cmd: u32) -> Option<Conflict>
     let mut index: u64 = 0;
     for fields in tables_of(cmd) {
         let table = table_by(sliced, sliced.place, *fields, index);
-        if table.span.len > 0
+        if is_looked_for(cmd, *fields)
+            && table.span.len > 0
             && let Some(conflict) = homeless(sliced, image, &table)
         {
             return Some(conflict);
@@ -46,7 +49,12 @@ fn first_homeless(sliced: &Sliced, image: &Image, cmd: u32) -> Option<Conflict>
     None
 }
 
-// Why a table has no home: no segment is one in which loaders look for it, one of these is no home, or a
+// Whether loaders look for the table of a command: of those of `LC_DYSYMTAB` for the indirect entries alone.
+fn is_looked_for(cmd: u32, fields: TableFields) -> bool {
+    cmd != LC_DYSYMTAB || fields.place == INDIRECTSYMOFF
+}
+
+// Why a table has no home: loaders look for it in no segment, they look in a segment that is not its home, or a
 // kernel decrypts a byte of it.
 fn homeless(sliced: &Sliced, image: &Image, table: &Bounded) -> Option<Conflict>
     requires { IsPartOf sliced.now.held.place table.now.span table.now.part }
@@ -61,7 +69,7 @@ fn homeless(sliced: &Sliced, image: &Image, table: &Bounded) -> Option<Conflict>
     }
 }
 
-// The first segment in which loaders look for the table, and which is no home of it.
+// The first segment in which loaders look for the table, and which is not its home.
 fn astray(sliced: &Sliced, image: &Image, table: &Bounded) -> Option<Conflict>
     ensures { IfSome result (λ c. IsFileEnd (bytes_of sliced.now.held.bytes) c.limit) }
 {

@@ -43,7 +43,7 @@ struct Lead {
     next: u64,
 }
 
-// The page start, or the pointer, at the place: there is no room for the pointer to which it leads.
+// The page start, or the pointer, at the place: it leads to a pointer that has not enough room.
 #[inline(never)]
 pub(crate) fn chain_slot(sliced: &Sliced) -> Option<Explanation>
     ensures { ExplainsIn Rule.ChainSlot sliced.now result }

@@ -1,11 +1,12 @@
 //! The rules of sections. (`mach-o/loader.h`: `section_64`)
 
-ghost use Rattle.std.specs.Prelude.{◌≡◌, ◌+◌, IfSome};
+ghost use Rattle.std.specs.Prelude.{◌≡◌, ℕ, ◌+◌, List, IfSome};
 ghost use Rattle.macho_fields.specs.Bytes.{bytes_of};
 ghost use Rattle.macho_fields.specs.declared.rule.Rule.{Rule};
 ghost use Rattle.macho_explain.specs.Explained.{ExplainsIn, IsSpot};
 ghost use Rattle.macho_explain.specs.Explain.{IsWalked, IsSectionFound, IsSectionRow, IsSegmentRow};
 ghost use Rattle.macho_explain.specs.declared.walk.Sought.TheVariants as sought;
+ghost use Rattle.macho_symbols.specs.Indirects.{stride as stride_of};
 
 use crate::conflict::Conflict;
 use crate::explanation::Explanation;
@@ -13,12 +14,15 @@ use crate::part::{PartKind, index_of};
 use crate::segment::{SegmentAt, SegmentWith, find_segment};
 use crate::sliced::Sliced;
 use crate::spot::Spot;
+use crate::table::indirects;
 use crate::walk::{Sought, Walked, walk_to};
 use macho_fields::Span;
-use macho_fields::header::loader::{SECTION_64_SIZE, SEGMENT_COMMAND_64_SIZE};
+use macho_fields::header::loader::{SECTION_64_SIZE, SECTION_TYPE, SEGMENT_COMMAND_64_SIZE};
 use macho_fields::header::reloc::RELOCATION_INFO_SIZE;
 use macho_rows::sections::{KesvuotSection, nsects_at, row_of};
 use macho_rows::segments::last_address;
+use macho_symbols::indirects::{S_SYMBOL_STUBS, indirect_count};
+use macho_tables::limits::POINTER_SIZE;
 
 // A section: where its structure begins, its index among the sections, its fields, and its segment.
 #[derive(Clone, Copy)]
@@ -147,7 +151,39 @@ pub(crate) fn section_relocs(sliced: &Sliced) -> Option<Explanation>
     Some(at.shows(Conflict::past(relocations, sliced.whole(), span.end(), len)))
 }
 
+// The size of a section, which its stubs or pointers do not fill, and the size of one; or where their indirect entries
+// end, and how many there are.
+#[inline(never)]
+pub(crate) fn indirect_range(sliced: &Sliced) -> Option<Explanation>
+    ensures { ExplainsIn Rule.IndirectRange sliced.now result }
+{
+    let (at, section, _) = section_here(sliced)?;
+    let span = section.file_part();
+    let bytes = sliced.described(PartKind::SectionBytes, span, section.place, section.index);
+    let stride = section.stride();
+    if stride == 0 || span.len % stride != 0 {
+        return Some(at.shows(Conflict::alone(bytes, span.len, stride)));
+    }
+    let end = u64::from(section.row.reserved1).saturating_add(span.len / stride);
+    let count = indirect_count(&sliced.held.open()?);
+    Some(at.shows(Conflict {
+        second: indirects(sliced),
+        ..Conflict::alone(bytes, end, count)
+    }))
+}
+
 impl SectionAt {
+    // The size of one of its stubs, or of a pointer.
+    fn stride(&self) -> u64
+        ensures { (image : List ℕ) → IsSectionRow image self.now → result ≡ stride_of image self.now.place }
+    {
+        if u64::from(self.row.flags & SECTION_TYPE) == S_SYMBOL_STUBS {
+            u64::from(self.row.reserved2)
+        } else {
+            POINTER_SIZE
+        }
+    }
+
     // Its addresses.
     fn memory(&self) -> Span
         ensures start { result.start ≡ self.now.row.addr }

@@ -10,10 +10,12 @@ ghost use Rattle.macho_explain.specs.Explain.{IsSegmentFound, IsSegmentRow, MayM
 use crate::command::command_here;
 use crate::conflict::{Conflict, shared};
 use crate::explanation::Explanation;
-use crate::part::{Part, index_of};
+use crate::part::{Part, PartKind, index_of};
 use crate::sliced::Sliced;
 use crate::spot::Spot;
+use crate::whole::data_table;
 use macho_fields::Span;
+use macho_fields::header::loader::LC_CODE_SIGNATURE;
 use macho_rows::cursor::START;
 use macho_rows::load::{Wanted, next_wanted};
 use macho_rows::segments::{KesvuotSegment, row_of};
@@ -186,5 +188,18 @@ pub(crate) fn segment_file_overlap(sliced: &Sliced) -> Option<Explanation>
     let earlier = find_segment(sliced, SegmentWith::SharingFile(own, segment.place))?;
     let (first, last) = shared(own, earlier.file_part())?;
     let (one, other) = (sliced.segment(&segment), sliced.segment(&earlier));
+    Some(at.shows(sliced.sharing(one, other, first, last)))
+}
+
+// The bytes that the segment at the place shares with the code signature.
+#[inline(never)]
+pub(crate) fn signature_executable(sliced: &Sliced) -> Option<Explanation>
+    ensures { ExplainsIn Rule.SignatureExecutable sliced.now result }
+{
+    let (at, segment) = segment_here(sliced)?;
+    let table = data_table(sliced, LC_CODE_SIGNATURE)?;
+    let (first, last) = shared(segment.file_part(), table.span)?;
+    let one = sliced.segment(&segment);
+    let other = sliced.described(PartKind::Table, table.span, table.command, Some(0));
     Some(at.shows(sliced.sharing(one, other, first, last)))
 }

@@ -1,12 +1,14 @@
 //! The rules of code signatures. (`cs_blobs.h`: `CS_SuperBlob`, `CS_BlobIndex`, `CS_CodeDirectory`)
 
-ghost use Rattle.std.specs.Prelude.{◌≡◌, ◌+◌, ◌^◌, ◌≤◌, ◌<◌, length, IfSome, IsSomeAnd, Some};
+ghost use Rattle.std.specs.Prelude.{◌≡◌, ◌+◌, ◌^◌, ◌≤◌, ◌<◌, ℕ, List, length, IfSome, IsSomeAnd, MatchOption, Some};
 ghost use Rattle.macho_fields.specs.Bytes.{bytes_of};
 ghost use Rattle.macho_fields.specs.declared.rule.Rule.{Rule};
 ghost use Rattle.macho_signature.specs.CodeDirectories.{code_directory};
 ghost use Rattle.macho_signature.specs.Signature.{bytes_at};
 ghost use Rattle.macho_signature.specs.Superblobs.{big_word, blob_at, blob_count, blob_end, entry_offset as entry_offset_of, least_offset};
 ghost use Rattle.macho_explain.specs.Explained.{ExplainsIn, IsWithin};
+ghost use Rattle.macho_spans.specs.declared.span.Span.{Span};
+ghost use Rattle.macho_explain.specs.Wholes.{Opens};
 ghost use Rattle.macho_explain.specs.Signatures.{Differ, IsBlobShown, IsSignatureOf, IsSuperblobShown};
 
 use crate::conflict::Conflict;
@@ -16,7 +18,8 @@ use crate::numbers::Numbers;
 use crate::part::{Part, PartKind};
 use crate::sliced::Sliced;
 use crate::spot::Spot;
-use crate::table::{Bounded, data_table};
+use crate::table::Bounded;
+use crate::whole::{Whole, whole_table};
 use macho_fields::header::cs_blobs::{
     CS_BLOB_INDEX_SIZE, CS_GENERIC_BLOB_SIZE, CS_SUPER_BLOB_SIZE, CSMAGIC_EMBEDDED_SIGNATURE,
 };
@@ -36,10 +39,12 @@ pub(crate) struct Signature<'a> {
 
 // The code signature of an image, if its table lies in the image.
 pub(crate) fn signature_of<'a>(sliced: &Sliced<'a>) -> Option<Signature<'a>>
-    ensures { IfSome result (λ s. IsSignatureOf (bytes_of sliced.now.held.bytes) s.table.span (bytes_of s.bytes)) }
+    ensures { MatchOption result
+        (Opens (bytes_of sliced.now.held.bytes) → (table : Span) (signature : List ℕ)
+        → ¬ IsSignatureOf (bytes_of sliced.now.held.bytes) table signature)
+        (λ s. IsSignatureOf (bytes_of sliced.now.held.bytes) s.table.span (bytes_of s.bytes)) }
 {
-    let table = data_table(sliced, LC_CODE_SIGNATURE)?;
-    let bytes = Bytes::new(sliced.held.bytes.part(table.span)?);
+    let Whole { table, bytes } = whole_table(sliced, LC_CODE_SIGNATURE)?;
     Some(Signature { table, bytes })
 }
 

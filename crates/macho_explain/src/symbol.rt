@@ -9,7 +9,7 @@ ghost use Rattle.macho_explain.specs.Explained.{ExplainsIn, IsSpot};
 
 use crate::conflict::Conflict;
 use crate::explanation::Explanation;
-use crate::part::{Part, PartKind};
+use crate::part::{Part, PartKind, index_of};
 use crate::sliced::Sliced;
 use crate::spot::Spot;
 use crate::table::symtab_table;
@@ -128,12 +128,11 @@ pub(crate) fn indirect_index(sliced: &Sliced) -> Option<Explanation>
         return None;
     }
     let (symbols, count) = symtab_table(sliced, 0);
-    let index = u32::try_from(index).ok()?;
     let part = sliced.structure(
         PartKind::Indirect,
         sliced.place,
         INDIRECT_ENTRY_SIZE,
-        Some(index),
+        index_of(index),
     );
     Some(
         sliced.at(part).shows(Conflict {

@@ -1,19 +1,17 @@
 //! The tables that load commands bound. (`mach-o/loader.h`)
 
-ghost use Rattle.std.specs.Prelude.{◌≡◌, ◌+◌, ◌^◌, ◌<◌, [], IfSome, Some};
+ghost use Rattle.std.specs.Prelude.{◌≡◌, ◌+◌, ◌^◌, ◌<◌, []};
 ghost use Rattle.std.specs.Option.{option_map_or};
 ghost use Rattle.macho_fields.specs.Bytes.{bytes_of};
 ghost use Rattle.macho_fields.specs.LoadCommands.{structure_of, table_fields};
-ghost use Rattle.macho_fields.specs.declared.load_command.Structure.TheVariants.{LinkeditDataCommand};
 ghost use Rattle.macho_fields.specs.declared.load_command.Width.TheVariants.{Uint32};
 ghost use Rattle.macho_explain.specs.Explain.{IsOfBytes, word_at};
 ghost use Rattle.macho_explain.specs.Parts.{IsPartOf};
-ghost use Rattle.macho_explain.specs.Signatures.{IsSizeOfTable, IsTableOfCommand};
 
 use crate::part::{Part, PartKind, index_of};
 use crate::sliced::Sliced;
 use crate::walk::{Sought, walk_to};
-use macho_fields::header::loader::LC_SYMTAB;
+use macho_fields::header::loader::{LC_DYSYMTAB, LC_SYMTAB};
 use macho_fields::{Span, TableFields, Width, structure_of, table_end};
 use macho_rows::load::Load;
 
@@ -78,17 +76,15 @@ pub(crate) fn table_with(sliced: &Sliced, load: Load, index: u64) -> Option<Boun
     Some(table_by(sliced, load.place, *fields, index))
 }
 
-// The table of the first command with this `cmd`.
-pub(crate) fn data_table(sliced: &Sliced, cmd: u32) -> Option<Bounded>
-    ensures table { structure_of cmd ≡ Some LinkeditDataCommand
-        → IfSome result (λ table. IsTableOfCommand (bytes_of sliced.now.held.bytes) cmd table.span) }
-    ensures size { structure_of cmd ≡ Some LinkeditDataCommand
-        → IfSome result (λ table. IsSizeOfTable (bytes_of sliced.now.held.bytes) cmd table.span.len) }
-{
-    let walked = walk_to(sliced.held.bytes, Sought::First(cmd))?;
-    let fields = tables_of(cmd).first()?;
-    Some(table_by(sliced, walked.load.place, *fields, 0))
+// The indirect entries of `LC_DYSYMTAB`.
+pub(crate) fn indirects(sliced: &Sliced) -> Option<Part> {
+    let walked = walk_to(sliced.held.bytes, Sought::First(LC_DYSYMTAB))?;
+    let table = table_with(sliced, walked.load, INDIRECTS)?;
+    Some(table.part)
 }
+
+// The index of the indirect entries among the tables of `LC_DYSYMTAB`.
+const INDIRECTS: u64 = 3;
 
 // The table with this index of `LC_SYMTAB`, and how many items it has: the symbols or the strings.
 pub(crate) fn symtab_table(sliced: &Sliced, index: u64) -> (Option<Part>, u64) {

@@ -270,7 +270,7 @@ module _ (most : ℕ) (trie : List ℕ) (left place : ℕ) (name : List ℕ) whe
       → way_on most trie left place name terminal first end ≡ terminal_from most trie (left - (end - place)) edge.child (drop edge.label.len name)
   way_led terminal first end edge fits goes some = rw some (way_more terminal (Some edge) end fits goes)
 
--- nodes that may be met, of which one is
+-- nodes that may be met, and one that is
 pub one_met : (end counter : ℕ) (trie : List ℕ) (left place : ℕ) (name : List ℕ) (found : Option Span) → counter < end
     → terminal_from (end - counter) trie left place name ≡ found → terminal_from (suc (end - (counter + 1))) trie left place name ≡ found
 one_met end counter trie left place name found less is =

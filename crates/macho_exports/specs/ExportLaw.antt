@@ -15,12 +15,12 @@ use Rattle.macho_exports.specs.declared.export_trie.Export.{Export}
 use Rattle.macho_exports.specs.declared.export_trie.Target.{Target}
 use Rattle.macho_exports.specs.declared.export_trie.Target.TheVariants as target
 
--- segments are mapped to the address, and to that of the resolver if there is one
+-- segments are mapped to the address, and to the address of the resolver if there is one
 abbrev pub AreMapped : List ℕ → ℕ → ℕ → Option ℕ → Type 0
 AreMapped image base address resolver =
     IsMapped image (base + address) × IfSome resolver (λ r. IsMapped image (base + r))
 
--- What it leads to is there: a library, or addresses of the image. An absolute address is none of these.
+-- What it leads to is there: a library, or addresses of the image. An absolute address is neither.
 abbrev pub IsThere : List ℕ → Export → Target → Type 0
 IsThere image export (target.Reexport ordinal name) =
     (ordinal ≤ library_count image) ⊎ (2 ^ 64 - 3 ≤ ordinal)
@@ -47,7 +47,7 @@ IsWay trie place [] = Unit {0}
 IsWay trie place (next ∷ way) =
     (node : Node) × (node_at trie place ≡ Some node) × Contains (children node) next × IsWay trie next way
 
--- the bytes of the node at a place, and of those at several
+-- the bytes of the node at a place, and of the nodes at several
 abbrev pub node_bytes : List ℕ → ℕ → ℕ
 node_bytes trie place = option_map_or (λ (node : Node). node.end - place) (node_at trie place) 0
 
@@ -72,6 +72,6 @@ AreSoundExports image =
     → AreSoundNodes image (part table.start table.len image) × AreShortWays (part table.start table.len image)
     × IsNeverCut (part table.start table.len image)
 
--- of a file: that of each 64-bit slice is
+-- of a file: the export trie of each 64-bit slice is
 abbrev pub HasSoundExports : List ℕ → Type 0
 HasSoundExports = OfEachImage AreSoundExports

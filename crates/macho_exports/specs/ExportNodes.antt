@@ -7,7 +7,7 @@ use Rattle.macho_exports.specs.declared.export_trie.ExportNode.{ExportNode}
 use Rattle.macho_exports.specs.declared.export_walk.Waiting.{Waiting}
 use Rattle.macho_exports.specs.declared.export_walk.MetNode.{MetNode}
 
--- the places of those that wait: the last of the stack is the first
+-- the places of the waiting nodes: the last of the stack is the first
 abbrev pub waiting_places : Waiting → List ℕ
 waiting_places waiting = reverse waiting.stack.items
 

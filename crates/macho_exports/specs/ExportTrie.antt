@@ -13,7 +13,7 @@ use Rattle.macho_exports.specs.declared.export_trie.ExportNode.{ExportNode}
 use Rattle.macho_exports.specs.declared.export_trie.Target.{Target}
 use Rattle.macho_exports.specs.declared.export_trie.Target.TheVariants as target
 
--- Of the flags of an export, those that say of which kind a symbol is, and the kind whose address does not count
+-- The flags of an export that say which kind a symbol is of, and the kind whose address does not count
 -- from the base of the image
 abbrev pub EXPORT_SYMBOL_FLAGS_KIND_MASK : ℕ
 EXPORT_SYMBOL_FLAGS_KIND_MASK = 0x03
@@ -29,7 +29,7 @@ EXPORT_SYMBOL_FLAGS_REEXPORT = 0x08
 abbrev pub EXPORT_SYMBOL_FLAGS_STUB_AND_RESOLVER : ℕ
 EXPORT_SYMBOL_FLAGS_STUB_AND_RESOLVER = 0x10
 
--- A name at a place: the bytes up to the first zero byte, as a span, and the place past that byte. It is none
+-- A name at a place: the bytes up to the first zero byte, as a span, and the place past that byte. It is None
 -- where no zero byte follows.
 unfoldable pub name_at : List ℕ → ℕ → Option (Span × ℕ)
 name_at bytes place =
@@ -86,9 +86,9 @@ begins_with trie name edge = starts_with nat_eq name (part edge.label.start edge
 abbrev pub ends : List ℕ → Node → Bool
 ends name node = (length name == 0) && nat_lt 0 node.terminal.len
 
--- The terminal part to which a name leads from the node at a place. It is that of the node, if the name ends
+-- The terminal part to which a name leads from the node at a place. It is the node's, if the name ends
 -- there. Otherwise the first edge whose label begins the name leads on, with the rest of the name. All nodes on
--- the way, each as often as it is met, may have `left` bytes. There may be `most` of them, which is no bound of
+-- the way, each as often as it is met, may have `left` bytes. There may be `most` of them, which is not a bound of
 -- its own where it is the same number: each node has two bytes or more.
 unfoldable pub terminal_from : ℕ → List ℕ → ℕ → ℕ → List ℕ → Option Span
 terminal_from zero trie left place name = None
@@ -104,9 +104,9 @@ terminal_from (suc most) trie left place name =
 unfoldable pub find_terminal : List ℕ → List ℕ → Option Span
 find_terminal trie name = terminal_from (length trie) trie (length trie) 0 name
 
--- What a terminal part says. Each of these is none where a number or a name does not end in the bytes.
+-- What a terminal part says. Each part is None where a number or a name does not end in the bytes.
 
--- an address, with that of a resolver if the flags say so
+-- an address, with the address of a resolver if the flags say so
 unfoldable pub address_at : ℕ → List ℕ → ℕ → Option (Target × ℕ)
 address_at flags bytes place =
     option_and_then (λ address.

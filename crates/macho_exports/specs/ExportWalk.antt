@@ -37,7 +37,7 @@ walk (suc most) trie left (place ∷ waiting) =
 abbrev pub met_nodes : List ℕ → List Met
 met_nodes trie = walk (length trie + 1) trie (length trie) (0 ∷ [])
 
--- a node with P is among some that are met, and the place is the one that is reported of it
+-- a node with P is among some that are met, and the place is what is reported of it
 abbrev pub AtMet : (Met → ℕ) → (Met → Type 0) → List Met → ℕ → Type 0
 AtMet place_of P nodes place = (met : Met) × Contains nodes met × (place_of met ≡ place) × P met
 
@@ -81,7 +81,7 @@ whole_export trie terminal =
     option_and_then (λ (e : Export × ℕ). if e.1 == end_of terminal && have_meaning e.0.flags then Some e.0 else None)
     (export_in trie terminal)
 
--- there is a terminal part, and it is no such export
+-- the node has a terminal part, without such an export
 abbrev pub IsBadTerminal : List ℕ → Span → Type 0
 IsBadTerminal trie terminal = (0 < terminal.len) × (whole_export trie terminal ≡ None)
 

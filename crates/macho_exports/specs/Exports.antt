@@ -41,7 +41,7 @@ LeadsNowhere image base (target.Address address resolver) =
     (¬ IsMapped image (base + address)) ⊎ ResolvesNowhere image base resolver
 LeadsNowhere image base other = ⊥
 
--- the address of an absolute symbol is none of the image
+-- the address of an absolute symbol is not in the image
 abbrev pub is_absolute : ℕ → Bool
 is_absolute flags =
     bit_and flags loader.EXPORT_SYMBOL_FLAGS_KIND_MASK == loader.EXPORT_SYMBOL_FLAGS_KIND_ABSOLUTE
@@ -88,7 +88,7 @@ abbrev pub info_exports : List ℕ → Option Span
 info_exports image =
     option_map_or (λ command. some_bytes (bytes_of_table (table_at image command (bounded_at 40)))) (dyld_info image) None
 
--- either, of which at most one has bytes after table-repeated
+-- either; at most one has bytes after table-repeated
 abbrev pub export_table : List ℕ → Option Span
 export_table image = option_map_or (λ table. Some table) (exports_data image) (info_exports image)
 
@@ -149,7 +149,7 @@ pub record AreNodeBreaks (image trie : List ℕ) (bounds : Span) (breaks : NodeB
   pub library : IsTrue breaks.library ↔ HasExport trie (HasNoLibrary image) bounds
   pub address : IsTrue breaks.address ↔ HasExport trie (HasNoAddress image) bounds
 
--- the place is noted where the rule is broken, if it is less than the one that was noted before
+-- the place is noted where the rule is broken, if it is less than the place that was noted before
 abbrev pub IsNotedLeast : Bool → ℕ → Option ℕ → Option ℕ → Type 0
 IsNotedLeast broken place old new = new ≡ (if broken then lesser old (Some place) else old)
 

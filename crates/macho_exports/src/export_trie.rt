@@ -29,7 +29,7 @@ pub enum Target {
         /// It counts from the base of the image, unless the symbol is absolute.
         address: u64,
         /// The address of the function that finds the address of the symbol, from the base. The address
-        /// above is then that of a stub.
+        /// above is then a stub's.
         resolver: Option<u64>,
     },
     /// A symbol of another library.
@@ -46,7 +46,7 @@ impl Target {
     ghost use Rattle.macho_fields.specs.Bytes.{bytes_of};
     ghost use Rattle.macho_exports.specs.ExportTrie.{address_at, reexport_at};
 
-    // Reads an address, and that of a resolver if the flags say so. It returns the place past them.
+    // Reads an address, and the address of a resolver if the flags say so. It returns the place past them.
     #[tactic(auto, unfolding(crate::specs::ExportTrie::address_at))]
     fn read_address(bytes: Bytes, flags: u64, place: u64) -> Option<(Target, u64)>
         ensures { result ≡ address_at flags (bytes_of bytes.entry) place }
@@ -206,7 +206,7 @@ impl ExportNode {
 
 /// Looks up a name, as a dynamic loader does: from the root on, at each node along the first edge whose label
 /// begins the rest of the name, to a node with a terminal part at which the name ends. It returns `None` if
-/// there is none, if this part cannot be read, or if a node on the way does not end in the table. All nodes on
+/// no such node exists, if this part cannot be read, or if a node on the way does not end in the table. All nodes on
 /// the way, each as often as it is met, may have no more bytes than the table: that bounds what a look-up
 /// reads, whatever the bytes are.
 #[tactic(auto, unfolding(crate::specs::ExportTrie::find_export))]

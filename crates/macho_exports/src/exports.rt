@@ -29,7 +29,7 @@ use macho_tables::mapped_addresses::MappedAddresses;
 use macho_tables::place::{bounded_at, dyld_info, first_place, lesser, place_from};
 use std::alloc::{AllocError, Global};
 
-/// The greatest flags of an export of which each bit has a meaning.
+/// The greatest flags of an export whose bits all have a meaning.
 pub const MOST_FLAGS: u64 = 0x1f;
 
 // The least ordinal that is a special one: -3, in 64 bits.
@@ -43,7 +43,7 @@ pub struct ExportSurvey {
     pub node: Option<u64>,
     /// The node with which those that were met have more bytes than the table.
     pub total: Option<u64>,
-    /// The first one whose terminal part is no export, or not read exactly to its end.
+    /// The first one whose terminal part is not an export, or not read exactly to its end.
     pub terminal: Option<u64>,
     /// The first one of a symbol that is from no library.
     pub library: Option<u64>,
@@ -204,7 +204,7 @@ fn survey(alloc: Global, image: &Image, trie: Bytes) -> Result<ExportSurvey, All
 // Which rules the terminal part of a node breaks.
 #[derive(Clone, Copy, Debug, PartialEq, Eq)]
 struct NodeBreaks {
-    // It is no export, or not read exactly to its end.
+    // It is not an export, or not read exactly to its end.
     terminal: bool,
     // The symbol is from no library.
     library: bool,
@@ -271,7 +271,7 @@ impl Destinations {
         breaks
     }
 
-    // Whether the symbol is not absolute, and no segment has its address or that of its resolver.
+    // Whether the symbol is not absolute, and no segment has its address or its resolver's.
     fn has_no_address(&mut self, export: Export) -> bool
         ensures nowhere { (image : List ℕ) → AreDestinations image self.old
             → IsTrue result ↔ HasNoAddress image export }
@@ -286,7 +286,7 @@ impl Destinations {
         self.leads_nowhere(base, export.target)
     }
 
-    // Whether no segment has the address or that of the resolver, which count from the base.
+    // Whether no segment has the address or the resolver's, which count from the base.
     fn leads_nowhere(&mut self, base: u64, target: Target) -> bool
         ensures nowhere { (image : List ℕ) → AreDestinations image self.old
             → IsTrue result ↔ LeadsNowhere image base target }
@@ -325,7 +325,7 @@ impl Destinations {
     }
 }
 
-// Whether the symbol is from another library, by an ordinal above their number that is no special one.
+// Whether the symbol is from another library, by an ordinal above their number that is not special.
 fn is_of_no_library(target: Target, libraries: u64) -> bool
     ensures { IsTrue result ↔ IsOfNoLibrary libraries target }
 {

@@ -5,5 +5,3 @@
 pub mod export_trie;
 mod export_walk;
 pub mod exports;
-#[cfg(test)]
-mod tests;

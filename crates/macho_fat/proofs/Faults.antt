@@ -1,4 +1,4 @@
--- The fault of a rule is the fault of the file, whose bytes are those of the table.
+-- The fault of a rule is the fault of the file, whose bytes are the table's.
 use Rattle.std.proofs.Common.{◌≡◌, ◌⊎◌, ℕ, List, Option, Some, None, Result, MatchResult, Ok, Err, IfErr, IsErrAnd, refl, sym, subst, inr}
 use Rattle.std.proofs.lemmas.Bool.{false≢true}
 use Rattle.macho_fields.specs.First.{rank}

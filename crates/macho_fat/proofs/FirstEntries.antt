@@ -29,7 +29,7 @@ range_more : (n : ℕ) → range_with_len 0 (n + 1) ≡ range_with_len 0 n ++ n 
 range_more n = sym (map-id (range_with_len 0 (n + 1))) ∙ (map-range_with_len_more (λ k. k) 0 n n (omega arith) ∙ ap (λ ks. ks ++ n ∷ []) (map-id (range_with_len 0 n)))
 
 module _ (file : List ℕ) (P : ℕ → Type 0) where
-  -- one entry more, which has not P
+  -- one entry more, without P
   pub entry_kept : (k : ℕ) (found : Option ℕ) → ¬ P k → IsFirstEntry file P k found → IsFirstEntry file P (k + 1) found
   entry_kept k found kept first = rw range_more (first_of_kept (entry_place file) P (range_with_len 0 k) k found kept first)
 

@@ -48,7 +48,7 @@ module _ (file : List ℕ) (k : ℕ) (foreign : Option ℕ) (has_image : Bool) (
   pub unread_passed : ¬ IsRead file k → IsUnreadImage (slice_bytes file (entry_slice file k)) → AreMagicsBelow file (k + 1) foreign has_image
   unread_passed none unread = record { least = none_foreign file k foreign before.least (λ foreign. foreign (inr unread)); image = image_kept none }
 
-  -- it is no image
+  -- it is not an image
   pub foreign_passed : (start next : ℕ) → start ≡ (entry_slice file k).start → next ≡ min (unwrap_or foreign start) start → ¬ IsRead file k → ¬ IsUnreadImage (slice_bytes file (entry_slice file k))
       → AreMagicsBelow file (k + 1) (Some next) has_image
   foreign_passed start next at is none neither = record { least = lesser foreign before.least is; image = image_kept none }

@@ -1,4 +1,4 @@
--- The first entry whose span shares a place with that of an earlier one, and which rule it breaks.
+-- The first entry whose span shares a place with an earlier entry's, and which rule it breaks.
 use Rattle.std.proofs.Common.{◌≡◌, ℕ, ◌+◌, ◌*◌, ◌^◌, ◌<◌, ◌↔◌, List, length, [], ◌∷◌, ◌++◌, map, slice_get, Option, Some, None, Result, Ok, Err, IfOk, OnErr, MatchResult, refl, sym, ap, ap₂, ◌∙◌, subst, arith, inl, inr, length-append}
 use Rattle.std.proofs.lemmas.Bool.{cases_lt}
 use Rattle.std.specs.List.{range_with_len}
@@ -210,7 +210,7 @@ module _ (returns : Entry → Span → Type 0) (file : List ℕ) where
     each = λ span of. more ∙ (ap₂ (λ xs x. xs ++ x ∷ []) (are.each span of) (of n entry given is returned) ∙ sym (map-range_with_len_more span 0 n n (omega arith)));
   }
 
-  -- those of all entries
+  -- the spans of all entries
   pub all_returned : (n : ℕ) (spans : List Span) → n ≡ entry_count file → AreReturned returns file n spans → (span : ℕ → Span) → ReturnsSpans returns file span
       → spans ≡ entry_spans file span
   all_returned n spans all are span of = are.each span of ∙ ap (λ n. map span (range_with_len 0 n)) all

@@ -52,7 +52,7 @@ abbrev pub capacity_of : SliceList → ℕ
 capacity_of (list.One slice) = 0
 capacity_of (list.Many slices) = vec_capacity slices
 
--- how many slices of a file are listed in memory: those of its entries, and none of a file with no table
+-- how many slices of a file are listed in memory: one for each entry, and none for a file with no table
 abbrev pub listed_count : List ℕ → ℕ
 listed_count file = if is_universal file then entry_count file else 0
 

@@ -20,7 +20,7 @@ use Rattle.macho_fat.specs.declared.rules.Format.TheVariants as format
 use Rattle.macho_fat.specs.declared.survey.Notes.{Notes}
 use Rattle.macho_fat.specs.declared.table.Entry.{Entry}
 
--- the magic number of the file is that of the format, and of no other
+-- the magic number of the file is the format's, and no other format's
 abbrev pub IsFormat : List ℕ → Format → Type 0
 IsFormat file format.Image = IsImage file × (is_universal file ≡ false)
 IsFormat file format.Universal = IsUniversal file
@@ -49,8 +49,8 @@ abbrev pub ReturnsSpans : (Entry → Span → Type 0) → List ℕ → (ℕ → 
 ReturnsSpans returns file span =
     (k : ℕ) (entry : Entry) (given : Span) → IsEntry file k entry → returns entry given → given ≡ span k
 
--- the answer is the place of the first entry whose span shares a place with that of an earlier one,
--- and None if there is none
+-- the answer is the place of the first entry whose span shares a place with the span of an earlier one,
+-- and None without such an entry
 abbrev pub FindsFirstSharing : List ℕ → (ℕ → Span) → Option ℕ → Type 0
 FindsFirstSharing file span found =
     MatchOption found ((j : ℕ) → ¬ SharesEarlier (entry_spans file span) j)
@@ -72,13 +72,13 @@ pub record AreFirstBreaks (file : List ℕ) (n : ℕ) (notes : Notes) : Type 0 w
   pub in_table : IsFirstEntry file (IsSliceInTable file) n notes.in_table
   pub misaligned : IsFirstEntry file (IsSliceMisaligned file) n notes.misaligned
 
--- the notes are those of the first n entries
+-- the notes are about the first n entries
 pub record AreNotes (file : List ℕ) (n : ℕ) (notes : Notes) : Type 0 where
   pub breaks : AreFirstBreaks file n notes
   pub spans : IsOrderOf (placed_spans file (slice_span file) n) notes.spans
   pub archs : IsOrderOf (placed_spans file (arch_span file) n) notes.archs
 
--- the notes are those of a whole table
+-- the notes are about a whole table
 pub record IsSurvey (file : List ℕ) (notes : Notes) : Type 0 where
   pub table : HasWholeTable file
   pub whole : AreNotes file (entry_count file) notes

@@ -86,7 +86,7 @@ impl<'t, 'a> Magics<'t, 'a> {
     ghost use Rattle.macho_fields.specs.Rules.{BreaksFile};
     ghost use Rattle.macho_fields.specs.declared.rule.Rule.{Rule};
 
-    // Scans the slices of a table once, all of which lie inside the file.
+    // Scans the slices of a table once, which all lie inside the file.
     pub(crate) fn of(table: &'t Table<'a>) -> Magics<'t, 'a>
         requires { (place : ℕ) → ¬ BreaksFile table.now Rule.FatSliceOutside place }
         ensures { result ≡ table.now }

@@ -1,4 +1,4 @@
-//! The first entry whose span shares a place with that of an earlier one.
+//! The first entry whose span shares a place with an earlier entry's.
 
 ghost use Rattle.std.specs.Prelude.{◌≡◌, ◌<◌, ◌^◌, ℕ, length, IfOk, OnErr};
 ghost use Rattle.macho_spans.specs.SpanOrder.{IsSharingOf};
@@ -14,7 +14,7 @@ use crate::table::{Entry, Table};
 use macho_fields::{FirstPlace, Rule, Sharing, Span, SpanList};
 use std::alloc::{AllocError, Global};
 
-// The place of the first entry whose span, as `span_of` returns it, shares a place with that of an
+// The place of the first entry whose span, as `span_of` returns it, shares a place with the span of an
 // earlier entry. `sharing` is what the order of the spans shows of it. If it shows nothing, the
 // spans are sorted.
 pub(crate) fn first_sharing<F: Fn(Entry) -> Span>(

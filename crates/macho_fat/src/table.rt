@@ -13,7 +13,7 @@ use std::marker::Model;
 // How many bits a `cpusubtype` has without the capability bits.
 const CPU_SUBTYPE_BITS: u32 = 24;
 
-// Where an entry has its fields: their offsets from that of `cputype`, with which it begins.
+// Where an entry has its fields: their offsets from `cputype`, with which it begins.
 #[derive(Clone, Copy)]
 struct Fields {
     cpusubtype: u64,

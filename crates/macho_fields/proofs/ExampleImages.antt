@@ -33,7 +33,7 @@ pub nothing_commanded : (image : List ℕ) → file_type image ≡ 2 → (r : Ru
 nothing_commanded image kind rule.DylibId place h = any_nil _ (executable_names image [] kind h.1)
 nothing_commanded image kind other place h = search rules
 
--- nor does one that is all header, and what its header does not count
+-- an image that is only a header, with bytes after it that no command counts, breaks no rule either
 plain_executable : (image : List ℕ) → is_universal image ≡ false → IsImage image → IsHeader image → file_type image ≡ 2 → AreCommands image [] → IsUnbroken image
 plain_executable image one is good kind no_commands = unbroken_image image one is (λ r place b. nothing_commanded image kind r place (breaks_by_commands image [] good no_commands r place b))
 

@@ -1,4 +1,4 @@
--- Two slices, of which the second has another architecture than the table says.
+-- Two slices; the second has another architecture than the table says.
 use Rattle.std.proofs.Common.{◌≡◌, ℕ, suc, zero, ◌+◌, ◌≤◌, ◌<◌, ◌⊎◌, List, [], ◌∷◌, ◌++◌, replicate, Any, Option, Some, None, refl, sym, ap, subst, arith, lit≤, lit<, inl, inr, ⊎_elim}
 use Rattle.macho_fields.specs.Universal.{IsUniversal, IsImage, slice_bytes, entry_slice, IsSliceMisaligned, IsUnreadImage}
 use Rattle.macho_fields.specs.Rules.{BreaksFile, BreaksHeader, BreaksImage, BreaksCommands}

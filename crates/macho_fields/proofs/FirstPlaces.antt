@@ -22,7 +22,7 @@ module _ {X : Type 0} (place : X → ℕ) (P : X → Type 0) (items : List X) (x
     | inr here ↦ inr (only_one x y here)
   ]
 
-  -- it has not P
+  -- it does not have P
   pub first_of_kept : (found : Option ℕ) → ¬ P x → IsFirstOf place P items found → IsFirstOf place P (items ++ x ∷ []) found
   first_of_kept None kept none = λ y has broken. elim (last_or_other y has) [ inl before ↦ none y before broken | inr same ↦ kept (subst P (sym same) broken) ]
   first_of_kept (Some first) kept ((z, has_z, broken_z, at), least) = (

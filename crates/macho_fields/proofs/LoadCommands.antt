@@ -46,7 +46,7 @@ unlisted_each P hints linkedit none cmd = elim (cases_Bool (cmd == loader.LC_TWO
   ]
 ]
 
--- those of a command that is not judged lie in its first bytes
+-- the fields of a command that is not judged lie in its first bytes
 pub unlisted_inside : (cmd : ℕ) → All (AreFieldsInside loader.LINKEDIT_DATA_COMMAND_SIZE) (unlisted_tables cmd)
 unlisted_inside cmd = all_inside_of loader.LINKEDIT_DATA_COMMAND_SIZE (unlisted_tables cmd)
     (unlisted_each (λ tables. list_all (are_inside loader.LINKEDIT_DATA_COMMAND_SIZE) tables ≡ true) refl refl refl cmd)

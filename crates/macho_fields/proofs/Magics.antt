@@ -1,4 +1,4 @@
--- The magic numbers of slices: the least place of one that is no image, and whether one is read.
+-- The magic numbers of slices: the least place of a foreign slice, and whether a slice is read.
 use Rattle.std.proofs.Common.{◌≡◌, ℕ, ◌+◌, ◌≤◌, ◌<◌, ◌⊎◌, List, Option, Some, None, MatchOption, Any, ap, ◌∙◌, subst, arith, inl, inr}
 use Rattle.std.proofs.lemmas.Bool.{cases_lt}
 use Rattle.macho_fields.specs.Universal.{FileSlice, IsUniversal, IsImage, IsForeign, entry_count, entry_slice, slice_bytes, slices_of}
@@ -38,7 +38,7 @@ first_foreign file k start at none here = record { there = (k, omega arith, at, 
     least i less foreign =
         elim (cases_lt i k) [ inl lower ↦ absurd (none i lower foreign) | inr most ↦ (let same : i ≡ k = omega arith in omega (arith, at, ap (λ n. (entry_slice file n).start) same)) ]
 
--- the lesser of the least place and that of one more foreign slice
+-- the lesser of the least place and the place of one more foreign slice
 pub more_foreign : (file : List ℕ) (k start place next : ℕ) → start ≡ (entry_slice file k).start → IsLeastForeign file k place → IsForeignEntry file k → next ≤ place → next ≤ start
     → (next ≡ place) ⊎ (next ≡ start) → IsLeastForeign file (k + 1) next
 more_foreign file k start place next at is here low below one = record { there = there one; least = least }
@@ -58,7 +58,7 @@ more_foreign file k start place next at is here low below one = record { there =
 abbrev HasForeign : List ℕ → ℕ → FileSlice → Type 0
 HasForeign file place slice = (place ≡ slice.start) × IsForeign (slice_bytes file slice)
 
--- the least place of a foreign slice is that of the rule
+-- the rule is broken at the least place of a foreign slice
 pub foreign_broken : (file : List ℕ) (k place : ℕ) → k ≡ entry_count file → IsUniversal file → IsLeastForeign file k place
     → BreaksFile file rule.FatSliceMagic place × ((other : ℕ) → BreaksFile file rule.FatSliceMagic other → place ≤ other)
 foreign_broken file k place all universal is = ((universal, here), least)

@@ -1,4 +1,4 @@
--- A file that is one image: its first broken rule is that of the image.
+-- A file that is one image: its first broken rule is the image's.
 use Rattle.std.proofs.Common.{◌≡◌, ℕ, suc, zero, ◌+◌, List, [], ◌∷◌, length, false, None, IsSomeAnd, slice_get, refl, sym, ◌∙◌, subst, arith, inl, inr, le_refl, take_all}
 use Rattle.std.proofs.lemmas.Bool.{true≢false}
 use Rattle.macho_fields.specs.Universal.{FileSlice, is_universal, slices_of, slice_bytes, IsUniversal, IsImage}

@@ -99,7 +99,7 @@ pub image_rule_rank : (image : List ℕ) (arch : Option (ℕ × ℕ)) (r : Rule)
 image_rule_rank image arch r place (inl h) = (of_header image arch r place h).0
 image_rule_rank image arch r place (inr (commands, are, h)) = let late = (of_commands image commands r place h).0 in omega arith
 
--- a rule that a header breaks comes before those of the commands
+-- a rule that a header breaks comes before the rules of the commands
 pub header_rule_rank : (image : List ℕ) (arch : Option (ℕ × ℕ)) (r : Rule) (place : ℕ) → BreaksHeader image arch r place → rank r < rank rule.CommandShort
 header_rule_rank image arch r place h = (of_header image arch r place h).1
 

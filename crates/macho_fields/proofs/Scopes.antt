@@ -37,7 +37,7 @@ module _ (Breaks : List ℕ → Rule → ℕ → Type 0) (ImageBreaks : List ℕ
     pub slice_least : IsImage (slice_bytes file slice) → (b : Break) → IsLeast (ImageBreaks (slice_bytes file slice) slice.arch) b → IsLeast (BrokenIn (suc k)) b
     slice_least image b (here, least) = (of_slice image b.rule b.place here, λ r place broken. least r place (in_slice r place broken))
 
-  -- a slice that is no image breaks nothing
+  -- a slice without an image breaks nothing
   pub other_unbroken : (k : ℕ) → ¬ HasImage file k → NothingBreaks (BrokenIn (suc k))
   other_unbroken k none r place broken =
       let (slice, is, (image, here)) = some_of (SliceBreaks r place) (slice_get (slices_of file) k) broken in

@@ -1,4 +1,4 @@
--- The slices of a file: those of its entries, or the whole of a file with no table.
+-- The slices of a file: one for each entry, or the whole of a file with no table.
 use Rattle.std.proofs.Common.{◌≡◌, ℕ, ◌<◌, List, length, map, Any, All, Some, slice_get, refl, sym, ap, ◌∙◌, subst, arith}
 use Rattle.std.specs.List.{range_with_len}
 use Rattle.std.proofs.lemmas.List.FromFn.{length-map-range_with_len, get_or-map-range_with_len}
@@ -16,7 +16,7 @@ pub slice_count : (file : List ℕ) → IsUniversal file → length (slices_of f
 slice_count file universal =
     ap length (universal_slices file universal) ∙ length-map-range_with_len (entry_slice file) 0 (entry_count file)
 
--- what holds of some slice holds of that of some entry
+-- what holds of some slice holds of the slice of some entry
 pub some_entry : (file : List ℕ) (P : FileSlice → Type 0) → IsUniversal file → Any P (slices_of file) → (k : ℕ) × (k < entry_count file) × P (entry_slice file k)
 some_entry file P universal any = among (subst (Any P) (universal_slices file universal) any)
   where
@@ -39,7 +39,7 @@ some_slice file P k universal less here = subst (Any P) (sym (universal_slices f
       here,
     )
 
--- what holds of all slices holds of those of the entries
+-- what holds of all slices holds of the slice of each entry
 pub each_entry : (file : List ℕ) (P : FileSlice → Type 0) → IsUniversal file → All P (slices_of file) → (k : ℕ) → k < entry_count file → P (entry_slice file k)
 each_entry file P universal all k less =
     let among = subst (All P) (universal_slices file universal) all in
@@ -54,7 +54,7 @@ each_slice file P universal each = subst (All P) (sym (universal_slices file uni
         let inside : k < entry_count file = omega (arith, less, length-map-range_with_len (entry_slice file) 0 (entry_count file)) in
         subst P (sym (get_or-map-range_with_len (entry_slice file) 0 (entry_count file) k k other inside (omega arith))) (each k inside)
 
--- the slice at an index is that of the entry
+-- the slice at an index is the entry's
 pub slice_of_entry : (file : List ℕ) (k : ℕ) → IsUniversal file → k < entry_count file → slice_get (slices_of file) k ≡ Some (entry_slice file k)
 slice_of_entry file k universal less =
     let among : slice_get (first_slices file (entry_count file)) k ≡ Some (entry_slice file k) =

@@ -6,7 +6,7 @@ use Rattle.macho_fields.specs.declared.rule.Rule.{Rule}
 use Rattle.macho_fields.specs.declared.rule.Break.{Break}
 use Rattle.macho_fields.proofs.Ranks.{rank_determines_rule}
 
--- two faults of which neither is before the other
+-- two faults, neither of them before the other
 module _ (f g : Fault) (p : ¬ IsBefore f g) (q : ¬ IsBefore g f) where
   same_scope : f.scope ≡ g.scope
   same_scope = elim (cases_order f.scope g.scope) [ inl e ↦ e | inr (inl h) ↦ absurd (p (inl h)) | inr (inr h) ↦ absurd (q (inl h)) ]

@@ -25,7 +25,7 @@ records_size image command structure =
     option_map_or (λ records. records.size * record_count image command records.count)
     (records_of structure) 0
 
--- the least cmdsize: that of the structure with its records
+-- the least cmdsize: the size of the structure with its records
 abbrev pub least_size : List ℕ → ℕ → Structure → ℕ
 least_size image command structure =
     structure_size structure + records_size image command structure

@@ -1,5 +1,5 @@
 -- The first broken rule of a file. The rules of the file come first, then each 64-bit slice in
--- table order. In each of these the rules come in the order of judgment, and of one rule the least
+-- table order. In each the rules come in the order of judgment, and of one rule the least
 -- place.
 use Rattle.std.specs.Prelude.{◌≡◌, ℕ, ◌+◌, ◌<◌, ◌⊎◌, suc, zero, List, slice_get, IsSomeAnd, Option}
 use Rattle.std.specs.Option.{option_map_or}

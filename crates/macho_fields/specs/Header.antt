@@ -1,6 +1,6 @@
 -- The constants of the public headers, as one number each. Compare this list with the headers by
--- eye: the other definitions use the constants by name. The sizes are those of the structures that
--- the headers declare, in bytes.
+-- eye: the other definitions use the constants by name. The sizes are the bytes of the structures that
+-- the headers declare.
 use Rattle.std.specs.Prelude.{◌≡◌}
 use Rattle.macho_fields.specs.declared.header.cs_blobs.TheConstants as cs
 use Rattle.macho_fields.specs.declared.header.fat.TheConstants as fat
@@ -121,7 +121,7 @@ pub record AreLoaderConstants : Type 0 where
   pub S_ZEROFILL : loader.S_ZEROFILL ≡ 0x1
   pub S_GB_ZEROFILL : loader.S_GB_ZEROFILL ≡ 0xc
   pub S_THREAD_LOCAL_ZEROFILL : loader.S_THREAD_LOCAL_ZEROFILL ≡ 0x12
-  -- the marks of an indirect entry that is no index of a symbol
+  -- the marks of an indirect entry without an index of a symbol
   pub INDIRECT_SYMBOL_LOCAL : loader.INDIRECT_SYMBOL_LOCAL ≡ 0x80000000
   pub INDIRECT_SYMBOL_ABS : loader.INDIRECT_SYMBOL_ABS ≡ 0x40000000
 
@@ -215,7 +215,7 @@ pub record AreNlistConstants : Type 0 where
   pub N_UNDF : nlist.N_UNDF ≡ 0
   pub N_INDR : nlist.N_INDR ≡ 0xa
   pub N_PBUD : nlist.N_PBUD ≡ 0xc
-  -- the library ordinals in n_desc that are no number of a library
+  -- the library ordinals in n_desc that do not number a library
   pub DYNAMIC_LOOKUP_ORDINAL : nlist.DYNAMIC_LOOKUP_ORDINAL ≡ 0xfe
   pub EXECUTABLE_ORDINAL : nlist.EXECUTABLE_ORDINAL ≡ 0xff
   -- the size of nlist_64

@@ -47,7 +47,7 @@ pub record IsGood (image : List ℕ) (place : ℕ) : Type 0 where
   pub inside : place + command_size image place ≤ commands_end image
 
 -- Good commands are at these places: the first at start, each other one where the one before it
--- ends. The last one ends at next, which is start if there is none.
+-- ends. The last one ends at next, which is start without a command.
 abbrev pub Follow : List ℕ → ℕ → List ℕ → ℕ → Type 0
 Follow image start [] next = start ≡ next
 Follow image start (place ∷ places) next =
@@ -63,7 +63,7 @@ abbrev pub AreCommands : List ℕ → List ℕ → Type 0
 AreCommands image commands =
     (length commands ≡ command_count image) × (next : ℕ) × IsChain image commands next
 
--- so many places, of which the first is at start, and each other one cmdsize bytes after the one
+-- so many places: the first is at start, and each other one cmdsize bytes after the one
 -- before it
 abbrev pub places_from : List ℕ → ℕ → ℕ → List ℕ
 places_from image start zero = []

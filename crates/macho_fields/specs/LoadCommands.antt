@@ -26,7 +26,7 @@ pub record LoadCommand : Type 0 where
 abbrev pub listed : ℕ → Structure → LoadCommand
 listed cmd structure = record { cmd = cmd; structure = structure }
 
--- those of which an image has at most one
+-- those that an image has at most once
 abbrev pub unique_commands : List LoadCommand
 unique_commands =
     listed loader.LC_SYMTAB structure.SymtabCommand
@@ -36,7 +36,7 @@ unique_commands =
     ∷ listed loader.LC_MAIN structure.EntryPointCommand
     ∷ []
 
--- those of which it has any number
+-- those that it may have any number of times
 abbrev pub repeatable_commands : List LoadCommand
 repeatable_commands =
     listed loader.LC_LOAD_DYLIB structure.DylibCommand
@@ -74,7 +74,7 @@ load_command_of cmd =
 abbrev pub structure_of : ℕ → Option Structure
 structure_of cmd = option_map (λ command. command.structure) (load_command_of cmd)
 
--- the cmds of which an image has at most one command
+-- the cmds that at most one command of an image has
 abbrev pub unique_cmds : List ℕ
 unique_cmds = map (λ command. command.cmd) unique_commands
 
@@ -116,7 +116,7 @@ AreFieldsInside size fields =
     × (fields.count + width_size fields.width ≤ size)
 
 -- Tables of the image that the fields of a structure bound: the offset of the field with the place of
--- the table, that of the field with the number of its items, and the size of an item. Both fields have
+-- the table, the offset of the field with the number of its items, and the size of an item. Both fields have
 -- one width.
 
 -- a table whose two fields are words of 32 bits
@@ -193,7 +193,7 @@ abbrev pub note_table : TableFields
 note_table = long_table 24 32 1
 
 -- What a structure has. A name, whose offset is the lc_str at 8 of the structure, follows it in the
--- command: dylib_command.dylib.name, dylinker_command.name, rpath_command.path. So do records.
+-- command: dylib_command.dylib.name, dylinker_command.name, rpath_command.path. Records follow too.
 pub record StructureLayout : Type 0 where
   pub size : ℕ
   pub is_named : Bool
@@ -257,7 +257,7 @@ unlisted_tables cmd =
     else (if cmd == loader.LC_FUNCTION_VARIANTS then linkedit_data_table ∷ []
     else (if cmd == loader.LC_FUNCTION_VARIANT_FIXUPS then linkedit_data_table ∷ [] else [])))
 
--- a layout of the code is that of the structure
+-- a layout of the code is the structure's
 pub record IsLayoutOf (s : Structure) (layout : Layout) : Type 0 where
   pub size : layout.size ≡ structure_size s
   pub named : layout.has_name ≡ has_name s

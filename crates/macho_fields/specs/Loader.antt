@@ -34,7 +34,7 @@ IsTable image commands start len =
     × (len ≡ reloc.RELOCATION_INFO_SIZE * nreloc image section)) (sections_in image segment))
     (segments_of image commands)
 
--- A part, by its start and its length in bytes: a command, the file range of a segment, that of a
+-- A part, by its start and its length in bytes: a command, the file range of a segment, the file range of a
 -- section that is not zero-fill, or a table. It may be empty.
 abbrev pub IsPart : List ℕ → List ℕ → ℕ → ℕ → Type 0
 IsPart image commands start len =
@@ -47,7 +47,7 @@ IsPart image commands start len =
     ⊎ IsTable image commands start len)
 
 -- The loader reads a place: in the header; in a command; in the structure of a listed command and
--- its records; in the file range of a segment; in that of a section that is not zero-fill; in a
+-- its records; in the file range of a segment; in the file range of a section that is not zero-fill; in a
 -- table; in a name, up to the first zero byte. Nothing bounds the place.
 pub data Reads (image commands : List ℕ) (place : ℕ) : Type 0 where
   in_header : place < loader.MACH_HEADER_64_SIZE → Reads image commands place

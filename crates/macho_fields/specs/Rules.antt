@@ -41,7 +41,7 @@ BreaksFile file rule.FatEmpty place =
     × All (λ slice. ¬ IsImage (slice_bytes file slice)) (slices_of file)
 BreaksFile file other place = ⊥
 
--- Rules of the header of an image, and of the walk over its commands. The architecture is that of
+-- Rules of the header of an image, and of the walk over its commands. The architecture is the one in
 -- the image's entry. (mach-o/loader.h: mach_header_64, load_command)
 abbrev pub BreaksHeader : List ℕ → Option (ℕ × ℕ) → Rule → ℕ → Type 0
 BreaksHeader image arch rule.HeaderTruncated place =

@@ -183,7 +183,7 @@ abbrev pub HasRelocsOutside : List ℕ → ℕ → Type 0
 HasRelocsOutside image section =
     (0 < nreloc image section) × (length image < reloff image section + 8 * nreloc image section)
 
--- there is no base, or no segment runs at the address that the LC_MAIN names
+-- the image has no base, or no segment runs at the address that the LC_MAIN names
 abbrev pub HasNoEntry : List ℕ → List ℕ → ℕ → Type 0
 HasNoEntry image commands main =
     ¬ IsSomeAnd (base_of image commands)

@@ -38,7 +38,7 @@ stroff image symtab = table_place image symtab string_table
 abbrev pub strsize : List ℕ → ℕ → ℕ
 strsize image symtab = item_count image symtab string_table
 
--- how many symbols an image has: nsyms of its LC_SYMTAB, 0 if there is none
+-- how many symbols an image has: nsyms of its LC_SYMTAB, 0 without an LC_SYMTAB
 abbrev pub symbol_count : List ℕ → List ℕ → ℕ
 symbol_count image commands =
     option_map_or (nsyms image)

@@ -78,11 +78,11 @@ HasPlace slice place = Covers slice.start slice.size place
 abbrev pub slice_bytes : List ℕ → FileSlice → List ℕ
 slice_bytes file slice = part slice.start slice.size file
 
--- mach_header_64.magic: the bytes begin with that of a 64-bit little-endian image, CF FA ED FE.
+-- mach_header_64.magic: the bytes begin with the magic of a 64-bit little-endian image, CF FA ED FE.
 abbrev pub IsImage : List ℕ → Type 0
 IsImage bytes = (4 ≤ length bytes) × (number Little 4 bytes 0 ≡ loader.MH_MAGIC_64)
 
--- mach_header.magic, mach_header_64.magic: they begin with that of an image that is not read, of 32
+-- mach_header.magic, mach_header_64.magic: they begin with the magic of an image that is not read, of 32
 -- bits in either order, or of 64 bits in big-endian order.
 abbrev pub IsUnreadImage : List ℕ → Type 0
 IsUnreadImage bytes =
@@ -90,7 +90,7 @@ IsUnreadImage bytes =
     × ((number Little 4 bytes 0 ≡ loader.MH_MAGIC) ⊎ (number Big 4 bytes 0 ≡ loader.MH_MAGIC)
     ⊎ (number Big 4 bytes 0 ≡ loader.MH_MAGIC_64))
 
--- They begin with that of neither.
+-- They begin with neither magic.
 abbrev pub IsForeign : List ℕ → Type 0
 IsForeign bytes = ¬ (IsImage bytes ⊎ IsUnreadImage bytes)
 
@@ -130,7 +130,7 @@ WithEarlier R j = (i : ℕ) × (i < j) × R i j
 abbrev pub SharePlace : FileSlice → FileSlice → Type 0
 SharePlace a b = (place : ℕ) × HasPlace a place × HasPlace b place
 
--- the slice of the entry shares a place with that of an earlier one
+-- the slice of the entry shares a place with the slice of an earlier entry
 abbrev pub OverlapsEarlierSlice : List ℕ → ℕ → Type 0
 OverlapsEarlierSlice file = WithEarlier (λ i j. SharePlace (entry_slice file i) (entry_slice file j))
 

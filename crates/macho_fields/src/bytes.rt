@@ -54,7 +54,7 @@ impl<'a> Bytes<'a> {
         self.bytes.len() as u64
     }
 
-    /// Whether there are no bytes.
+    /// Whether it is empty.
     pub fn is_empty(self) -> bool
         ensures { IsTrue result ↔ (bytes_of self.entry ≡ []) }
     {

@@ -86,7 +86,7 @@ pub fn first_place_is_inside(file: &[u8], first: Break)
     ensures { first.place ≤ length file.now }
 {}
 
-/// No rule is broken exactly if there is no first broken rule.
+/// No rule is broken exactly if the file has no first broken rule.
 pub fn unbroken_is_without_first(file: &[u8])
     ensures { IsUnbroken file.now ↔ ¬ ((first : Break) × IsFirstBroken file.now first) }
 {}
@@ -97,7 +97,7 @@ pub fn unbroken_is_sound(file: &[u8])
     ensures { IsSound file.now }
 {}
 
-/// In a sound image a zero byte follows each name: that of a command in the command, and that of a
+/// In a sound image a zero byte follows each name: the name of a command in the command, and the name of a
 /// symbol in the string table.
 pub fn a_zero_follows_each_name(image: &[u8], commands: &[u64])
     requires { IsSoundImage image.now commands.now }

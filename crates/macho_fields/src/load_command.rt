@@ -77,7 +77,7 @@ impl Width {
         }
     }
 
-    /// The number in the field of this width at `place`, of which all bytes are inside.
+    /// The number in the field of this width at `place`, which lies inside the image.
     pub fn read(self, image: Bytes, place: u64) -> u64
         requires { place + width_size self ≤ length (bytes_of image) }
         ensures number { result ≡ number_of self (bytes_of image.entry) place }
@@ -297,12 +297,12 @@ impl Structure {
     }
 }
 
-// The judged command with the greatest number of those without the bit `LC_REQ_DYLD`.
+// The judged command with the greatest number without the bit `LC_REQ_DYLD`.
 // registry: last command
 const LAST_WITHOUT_BIT: u32 = LC_BUILD_VERSION;
 // registry: end
 
-/// How many load commands there are of which an image has at most one.
+/// How many load commands an image has at most once.
 // registry: unique count
 pub const UNIQUE_COUNT: usize = 5;
 // registry: end
@@ -364,8 +364,8 @@ pub fn unlisted_tables(cmd: u32) -> &'static [TableFields]
     }
 }
 
-/// Where a command with this `cmd` stands among those of which an image has at most one, from 0 on, or
-/// `None` where an image has any number of them, or it is not judged.
+/// Where a command with this `cmd` stands among the commands that an image has at most once, from 0 on, or
+/// `None` where an image may have it more than once, or it is not judged.
 pub fn unique_index(cmd: u32) -> Option<usize>
     ensures index { result ≡ unique_index cmd }
     ensures inside { IfSome result (λ index. index < UNIQUE_COUNT) }

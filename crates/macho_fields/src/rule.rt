@@ -22,11 +22,13 @@ pub enum Profile {
     /// The rules judge where the linked data of an image lies; what the opcodes of `LC_DYLD_INFO` and
     /// `LC_DYLD_INFO_ONLY`, the table of `LC_DYLD_CHAINED_FIXUPS` and the chains of pointers in the pages ask a dynamic
     /// loader for; what the image exports; where functions start and data is in code; how a code signature is built;
-    /// what symbols and relocations refer to; where threads begin; and what all other commands of `loader.h` hold.
+    /// what symbols, stubs and relocations refer to; where threads and initializers begin; and what all other commands
+    /// of `loader.h` hold.
     Linked = 3,
     /// Each image has a code signature; each code directory has the hashes of all bytes before the signature and of the
-    /// blobs in special slots; and each nonzero byte from the signature on is in the signature's header, its index or a
-    /// blob. The profile does not say who signed, and it reads nothing outside of the file.
+    /// blobs in special slots; no byte of the signature can be executed; and each nonzero byte from the signature on is
+    /// in the signature's header, its index or a blob. The profile does not say who signed, and it reads nothing
+    /// outside of the file.
     Sealed = 4,
     // registry: end
 }
@@ -99,7 +101,7 @@ impl Profile {
 }
 
 /// A rule, in the order of judgment: profile after profile, and in each the rules of the file before
-/// those of an image. A rule is broken at a place, which is an offset in bytes.
+/// the rules of an image. A rule is broken at a place, which is an offset in bytes.
 ///
 /// Each has a number that never changes. A rule that is added takes the next free number, wherever it
 /// stands.
@@ -114,7 +116,7 @@ pub enum Rule {
     FatSliceOutside = 3,
     /// A slice begins before the end of the table that names it.
     FatSliceInTable = 4,
-    /// The offset of a slice is no multiple of its alignment.
+    /// The offset of a slice is not a multiple of its alignment.
     FatAlign = 5,
     /// A slice has a byte in common with an earlier one.
     FatOverlap = 6,
@@ -132,7 +134,7 @@ pub enum Rule {
     FileType = 12,
     /// The load commands end past the end of the image.
     CommandsOutside = 13,
-    /// There is no whole load command where one is due, or its size is impossible.
+    /// A load command is missing or cut, or its size is impossible.
     CommandWalk = 14,
     /// A load command is too small for its own fields.
     CommandShort = 15,
@@ -192,8 +194,8 @@ pub enum Rule {
     FunctionVariants = 42,
     /// A table of linked data is not where a loader finds it, or can change in memory.
     TableHome = 43,
-    /// There is linked data, and the header cannot be read in memory, or can be written, or is not where loaders take
-    /// the segment named `__TEXT` to be.
+    /// The header cannot be read in memory, or can be written, or is not where loaders take the segment named `__TEXT`
+    /// to be.
     HeaderHome = 44,
     /// An opcode of the rebases is not known, or its operands do not end.
     RebaseOpcode = 45,
@@ -245,6 +247,8 @@ pub enum Rule {
     /// An entry of the data in code is cut, of a kind that is not known, or not in the file bytes of an executable
     /// segment.
     DataInCode = 63,
+    /// An initializer that a section names by an offset is at no executable byte of the file, or the offset is cut.
+    InitOffset = 84,
     /// A blob of the code signature is not where it can be read, or does not begin as its magic number says.
     SignatureBlob = 69,
     /// A code directory is missing, cut, or of no known form, or something that it names is not inside of it.
@@ -257,6 +261,12 @@ pub enum Rule {
     SymbolValue = 73,
     /// The name that an indirect symbol stands in for does not end within the string table.
     SymbolIndirect = 74,
+    /// The stubs or symbol pointers of a section have no size, do not fill it, or pass the end of the indirect symbol
+    /// table.
+    IndirectRange = 82,
+    /// There is a table that only older loaders follow: of contents, modules or references, or of relocations beside
+    /// other fixups.
+    ObsoleteTable = 83,
     /// A relocation is of no symbol or section of the image, or of no pointer that can be written.
     Relocation = 75,
     /// The state of a thread is cut or not known, or its entry point is at no executable byte of the file.
@@ -265,6 +275,8 @@ pub enum Rule {
     CommandContent = 77,
     /// An image has no code signature with a code directory.
     SignatureMissing = 78,
+    /// A byte of the code signature lies in memory that may be executed.
+    SignatureExecutable = 85,
     /// A code directory is in the slot of an earlier one.
     DirectoryRepeated = 79,
     /// A byte of the code signature that is not zero lies in no part of it.
@@ -347,16 +359,20 @@ macro_rules! name_before {
             Rule::FunctionNumber => concat!("function-number", $end),
             Rule::FunctionStart => concat!("function-start", $end),
             Rule::DataInCode => concat!("data-in-code", $end),
+            Rule::InitOffset => concat!("init-offset", $end),
             Rule::SignatureBlob => concat!("signature-blob", $end),
             Rule::SignatureDirectory => concat!("signature-directory", $end),
             Rule::SignatureWhole => concat!("signature-whole", $end),
             Rule::SymbolLibrary => concat!("symbol-library", $end),
             Rule::SymbolValue => concat!("symbol-value", $end),
             Rule::SymbolIndirect => concat!("symbol-indirect", $end),
+            Rule::IndirectRange => concat!("indirect-range", $end),
+            Rule::ObsoleteTable => concat!("obsolete-table", $end),
             Rule::Relocation => concat!("relocation", $end),
             Rule::Thread => concat!("thread", $end),
             Rule::CommandContent => concat!("command-content", $end),
             Rule::SignatureMissing => concat!("signature-missing", $end),
+            Rule::SignatureExecutable => concat!("signature-executable", $end),
             Rule::DirectoryRepeated => concat!("directory-repeated", $end),
             Rule::SignatureSlack => concat!("signature-slack", $end),
             Rule::SignatureHash => concat!("signature-hash", $end),
@@ -437,16 +453,20 @@ impl Rule {
         Rule::FunctionNumber,
         Rule::FunctionStart,
         Rule::DataInCode,
+        Rule::InitOffset,
         Rule::SignatureBlob,
         Rule::SignatureDirectory,
         Rule::SignatureWhole,
         Rule::SymbolLibrary,
         Rule::SymbolValue,
         Rule::SymbolIndirect,
+        Rule::IndirectRange,
+        Rule::ObsoleteTable,
         Rule::Relocation,
         Rule::Thread,
         Rule::CommandContent,
         Rule::SignatureMissing,
+        Rule::SignatureExecutable,
         Rule::DirectoryRepeated,
         Rule::SignatureSlack,
         Rule::SignatureHash,
@@ -566,16 +586,20 @@ impl Rule {
             | Rule::FunctionNumber => Profile::Linked,
             Rule::FunctionStart
             | Rule::DataInCode
+            | Rule::InitOffset
             | Rule::SignatureBlob
             | Rule::SignatureDirectory
             | Rule::SignatureWhole
             | Rule::SymbolLibrary
             | Rule::SymbolValue
             | Rule::SymbolIndirect
+            | Rule::IndirectRange
+            | Rule::ObsoleteTable
             | Rule::Relocation
-            | Rule::Thread
-            | Rule::CommandContent => Profile::Linked,
+            | Rule::Thread => Profile::Linked,
+            Rule::CommandContent => Profile::Linked,
             Rule::SignatureMissing
+            | Rule::SignatureExecutable
             | Rule::DirectoryRepeated
             | Rule::SignatureSlack
             | Rule::SignatureHash => Profile::Sealed,

@@ -53,7 +53,7 @@ first_is image cmd p (x ∷ xs) is = elim (cases_Bool (command_cmd image x == cm
       (contains_later x p xs rest.0, rest.1)
 ]
 
--- where there is no first, there is none
+-- without a first command with the cmd, no command has it
 pub first_none : (image : List ℕ) (cmd p : ℕ) (xs : List ℕ) → first_with_cmd image cmd xs ≡ None → Contains xs p → ¬ (command_cmd image p ≡ cmd)
 first_none image cmd p [] is has same = absurd (none_in_nil p has)
 first_none image cmd p (x ∷ xs) is (zero, less, at) same =
@@ -152,7 +152,7 @@ by_place None place is other = (λ none. refl, λ some. absurd (some is))
 by_place (Some p) place is other = (λ none. absurd (other (ap Some (sym is ∙ none))), λ some. ap Some (sym is))
 
 module _ (image commands : List ℕ) (unique : UniquePlaces) (first : AreFirst image commands unique) where
-  -- a command of a kind of which an image has at most one
+  -- a command of a kind that an image has at most once
   module _ (cmd i : ℕ) (is : unique_index cmd ≡ Some i) where
     place_at : get_or unique.places i 0 ≡ unwrap_or (first_with_cmd image cmd commands) 0
     place_at =
@@ -202,7 +202,7 @@ module _ (image commands : List ℕ) (unique : UniquePlaces) (first : AreFirst i
             | inr other ↦ others k (λ e. false≢true (sym other ∙ eq-eqb k cmd e))
           ]
 
-  -- a command of which an image has any number changes no place
+  -- a command of a kind that an image has any number of times changes no place
   pub first_kept : (cmd p : ℕ) → ¬ IsUnique cmd → cmd ≡ command_cmd image p → 0 < p → AreFirst image (commands ++ p ∷ []) unique
   first_kept cmd p other cmd_is after = record {
     places = first.places ∙ sym (same_values (λ k. unwrap_or (first_with_cmd image k commands) 0) (λ k. unwrap_or (first_with_cmd image k (commands ++ p ∷ [])) 0) unique_cmds
@@ -217,7 +217,7 @@ none_found test (x ∷ xs) none = elim (cases_Bool (test x)) [
   | inr fails ↦ rw fails (none_found test xs (rw fails at none))
 ]
 
--- an unlisted command is none of which an image has at most one, and no segment
+-- an unlisted command may come any number of times, and does not describe a segment
 pub unlisted_is_not_unique : (cmd : ℕ) → structure_of cmd ≡ None → ¬ IsUnique cmd
 unlisted_is_not_unique cmd none unique = false≢true (sym (none_found (λ command. command.cmd == cmd) unique_commands (first_is_none _ _ none)) ∙ unique)
   where

@@ -28,7 +28,7 @@ held_segment image segment opened among is =
     let holds : 72 + 80 * nsects image segment ≤ command_size image segment = sections_inside image (commands_of image) facts are segment among is in
     let inside : segment + command_size image segment ≤ length image = command_inside image (commands_of image) facts are segment among in omega arith
 
--- another command is no segment
+-- another command does not describe a segment
 pub no_segment : (image : List ℕ) (command : CommandView) → ¬ (command.cmd ≡ loader.LC_SEGMENT_64) → segment_of image command ≡ None
 no_segment image command other = elim (cases_Bool (command.cmd == loader.LC_SEGMENT_64)) [
   | inl t ↦ absurd (other (eqb-true command.cmd loader.LC_SEGMENT_64 t))
@@ -46,7 +46,7 @@ all_segments_hold image all opened have =
 
 -- Sections
 
--- those of a segment that lies inside the image do too
+-- the sections of a segment that lies inside the image do too
 pub sections_held : (image : List ℕ) (segment : ℕ) → HoldsSegment image segment → All (HoldsSection image segment) (items_from 80 (segment + 72) (nsects image segment))
 sections_held image segment held k d less = record {
   held = held;

@@ -34,11 +34,11 @@ held image cmd command s listed opened has =
     let is : command_cmd image command ≡ cmd = with_cmd_is image (commands_of image) cmd command has in
     structure_held image command s (ap structure_of is ∙ listed) opened (with_cmd_among image (commands_of image) cmd command has)
 
--- the commands that a view begins with are those of the image
+-- the commands that a view begins with are the image's
 abbrev pub AreAll : List ℕ → List CommandView → Type 0
 AreAll image all = all ≡ map (command_at image) (commands_of image)
 
--- those of one kind
+-- the commands of one kind
 pub all_kept : (image : List ℕ) (all : List CommandView) (cmd : ℕ) → AreAll image all → left_with_cmd cmd all ≡ map (command_at image) (with_cmd image cmd (commands_of image))
 all_kept image all cmd is = ap (left_with_cmd cmd) is ∙ left_with_cmd-map image cmd (commands_of image)
 
@@ -58,7 +58,7 @@ pub got_first : (xs : List ℕ) (x : ℕ) → slice_get xs 0 ≡ Some x → Cont
 got_first [] x is = absurd (cc)
 got_first (y ∷ ys) x is = (0, omega arith, same_Some y x is)
 
--- what is yielded first of those that a view begins with is the first of the image
+-- the first yielded command that a view begins with is the first of the image
 pub first_yielded : (image : List ℕ) (all rest : List CommandView) (cmd : ℕ) (got : Option Command) → AreAll image all → YieldsFirstBy command_of (left_with_cmd cmd) all got rest
     → option_map command_of got ≡ option_map (command_at image) (first_with_cmd image cmd (commands_of image))
 first_yielded image all rest cmd None is yields =

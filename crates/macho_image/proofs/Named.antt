@@ -25,7 +25,7 @@ ended image command named opened has =
     let (z, low, high, within, zero_here) = name_ended image (commands_of image) keeps are command has named in
     (z, low, omega arith, within, zero_here)
 
--- where the structure of their kind has a name, that of each is held
+-- where the structure of their kind has a name, the name of each is held
 held_name : (image : List ℕ) (cmd command : ℕ) (s : Structure) → structure_of cmd ≡ Some s → has_name s ≡ true → IsOpened image → Contains (with_cmd image cmd (commands_of image)) command
     → HoldsName image command
 held_name image cmd command s listed named opened has =
@@ -44,7 +44,7 @@ all_names_held image all cmd s listed named opened is =
     subst (All (λ c. HoldsName image c.place)) (sym (all_kept image all cmd is)) (All-map (λ c. HoldsName image c.place) (command_at image) places
     (λ k d less. held_name image cmd _ s listed named opened (All-contains_itself places k d less)))
 
--- that of the first of them
+-- the name of the first of them
 pub first_name_held : (image : List ℕ) (cmd place : ℕ) (s : Structure) → structure_of cmd ≡ Some s → has_name s ≡ true → IsOpened image
     → first_with_cmd image cmd (commands_of image) ≡ Some place → HoldsName image place
 first_name_held image cmd place s listed named opened is = held_name image cmd place s listed named opened (got_first (with_cmd image cmd (commands_of image)) place is)

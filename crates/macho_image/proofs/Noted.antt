@@ -64,7 +64,7 @@ module _ (image : List ℕ) (walked place : ℕ) (at : IsAt image walked place) 
       subst (λ n. Contains (first_commands image n) place) all
       (subst (λ ps. Contains ps place) (sym (passed_and (suc left))) (Contains-append_right at.places (place ∷ places_from image (place + command_size image place) left) place (0, omega arith, refl)))
 
-  -- The range of those that pass a test, with one command more
+  -- The range of the commands that pass a test, with one command more
   module _ (test : ℕ → Bool) (range : CommandRange) (are : IsRange image test walked range) where
     passed_over : test place ≡ false → filter test (first_commands image (walked + 1)) ≡ filter test (first_commands image walked)
     passed_over fails =
@@ -130,7 +130,7 @@ module _ (image : List ℕ) (walked place : ℕ) (at : IsAt image walked place) 
     pub segment_names_none : cmd ≡ loader.LC_SEGMENT_64 → names_table image place ≡ false
     segment_names_none same = ap (λ number. option_map_or has_tables (structure_of number) false) (sym is ∙ same)
 
-    -- a command that is not listed is no landmark
+    -- a landmark is a listed command
     pub landmarks_kept : (landmarks : Landmarks) → structure_of cmd ≡ None → AreLandmarks image walked landmarks → AreLandmarks image (walked + 1) landmarks
     landmarks_kept landmarks none are = record {
       first = subst (λ ps. AreFirst image ps landmarks.unique) (sym passed_next) (first_kept image (first_commands image walked) landmarks.unique are.first cmd place (unlisted_is_not_unique cmd none) is passed_header);

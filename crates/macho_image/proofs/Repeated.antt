@@ -1,4 +1,4 @@
--- The rules on the commands of which an image has at most one.
+-- The rules on the commands that an image has at most once.
 use Rattle.std.proofs.Common.{◌≡◌, ℕ, ◌↔◌, ◌⊎◌, Bool, IsTrue, true, false, not, List, Option, Some, None, refl, sym, ◌∙◌, subst, inl, inr}
 use Rattle.std.proofs.lemmas.Bool.{false≢true, true≢false}
 use Rattle.std.specs.Prelude.{IsSome}

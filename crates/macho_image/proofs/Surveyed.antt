@@ -37,7 +37,7 @@ first_of_same place P Q items (Some first) same ((x, has, here, at), least) =
     ((x, has, (same x has).0 here, at), λ y has_y here_y. least y has_y ((same y has_y).1 here_y))
 
 module _ (image : List ℕ) (walked place : ℕ) (at : IsAt image walked place) where
-  -- one command more, which has P, or has not
+  -- one command more, with P or without it
   module _ (P : ℕ → Type 0) (found : Option ℕ) (first : IsFirstOf (λ command. command) P (first_commands image walked) found) where
     pub noted : P place → IsFirstOf (λ command. command) P (first_commands image (walked + 1)) (Some (unwrap_or found place))
     noted broken =

@@ -7,7 +7,7 @@ use Rattle.macho_fields.specs.Rules.{BreaksImage}
 use Rattle.macho_fields.specs.declared.rule.Rule.TheVariants as rule
 use Rattle.macho_image.specs.Command.{CommandView, command_at}
 
--- the bytes break none of the rules before segment-address, of which the last is name
+-- the bytes break none of the rules before segment-address, up to name
 unfoldable pub IsOpened : List ℕ → Type 0
 IsOpened image = KeptBelow (BreaksImage image None) (rank rule.SegmentAddress)
 

@@ -5,7 +5,7 @@ use Rattle.macho_fields.specs.Image.{with_cmd}
 use Rattle.macho_fields.specs.declared.header.loader.TheConstants as loader
 use Rattle.macho_image.specs.Command.{CommandView, command_name, left_with_cmd}
 
--- those of the LC_RPATH commands, in order
+-- the paths of the LC_RPATH commands, in order
 abbrev pub rpaths_of : List ℕ → List ℕ → List (List ℕ)
 rpaths_of image commands = map (command_name image) (with_cmd image loader.LC_RPATH commands)
 

@@ -61,7 +61,7 @@ items_inside image start each count =
     if nat_le (start + each * count) (length image)
     then map (λ k. start + each * k) (range_with_len 0 count) else []
 
--- the symbols of an image: those of its symbol table
+-- the symbols of an image, from its symbol table
 abbrev pub symbols_of : List ℕ → List ℕ → List ℕ
 symbols_of image commands =
     option_map_or (λ symtab.
@@ -107,7 +107,7 @@ IsNameAt image commands strx name =
     IsSomeAnd (first_with_cmd image loader.LC_SYMTAB commands) (λ symtab.
     name ≡ string_from (stroff image symtab + strx) image)
 
--- the places of `left` items of a table, of which the first is at `place`
+-- the places of `left` items of a table that begins at `place`
 abbrev pub items_from : ℕ → ℕ → ℕ → List ℕ
 items_from each place zero = []
 items_from each place (suc left) = place ∷ items_from each (place + each) left

@@ -25,7 +25,7 @@ use Rattle.macho_image.specs.declared.walk.Candidate.{Candidate}
 abbrev pub breaks_of : Candidate → Rule → ℕ → Type 0
 breaks_of candidate = BreaksImage (bytes_of candidate.bytes) candidate.arch
 
--- for each unique cmd, in their order, the place is that of its first command, and 0 where it has
+-- for each unique cmd, in their order, the place is where its first command is, and 0 where it has
 -- none: no command is at 0
 pub record AreFirst (image commands : List ℕ) (unique : UniquePlaces) : Type 0 where
   pub places : unique.places ≡ map (λ cmd. unwrap_or (first_with_cmd image cmd commands) 0) unique_cmds
@@ -46,7 +46,7 @@ pub record IsAt (image : List ℕ) (walked place : ℕ) : Type 0 where
 abbrev pub first_commands : List ℕ → ℕ → List ℕ
 first_commands image walked = places_from image loader.MACH_HEADER_64_SIZE walked
 
--- the command is a second one of which an image has at most one, after so many commands
+-- the command is a second one of a kind that an image has at most once, after so many commands
 abbrev pub Repeats : List ℕ → ℕ → ℕ → Type 0
 Repeats image walked command = RepeatsEarlier image (first_commands image walked) command
 
@@ -78,7 +78,7 @@ pub record IsRange (image : List ℕ) (test : ℕ → Bool) (walked : ℕ) (rang
   pub first : 0 < range.count → test range.place ≡ true
   pub last : 0 < range.count → Passes image test (range.before + range.count - 1)
 
--- where those of the first commands are that views look for
+-- where the commands that views look for are among the first commands
 pub record AreLandmarks (image : List ℕ) (walked : ℕ) (landmarks : Landmarks) : Type 0 where
   pub first : AreFirst image (first_commands image walked) landmarks.unique
   pub segments : IsRange image (is_segment image) walked landmarks.segments
@@ -110,7 +110,7 @@ HasPassedAll survey = HasPassed survey (command_count (bytes_of survey.candidate
 
 -- The walk over the commands
 
--- a command whose fields are those of its own bytes, which end where it ends
+-- a command whose fields are read from its own bytes, which end where it ends
 pub record IsAlone (c : CommandView) : Type 0 where
   pub cmd : c.cmd ≡ command_cmd c.bytes 0
   pub size : c.size ≡ command_size c.bytes 0

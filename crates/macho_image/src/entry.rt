@@ -10,7 +10,7 @@ use crate::image::Image;
 
 impl<'a> Image<'a> {
     /// The base address of the image: the `vmaddr` of the first segment with a `fileoff` of 0 whose
-    /// `filesize` and `vmsize` are not 0. `None` if there is no such segment.
+    /// `filesize` and `vmsize` are not 0. `None` without such a segment.
     pub fn base(&self) -> Option<u64>
         ensures { result ≡ base_of self.now (commands_of self.now) }
     {

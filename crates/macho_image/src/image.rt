@@ -158,8 +158,8 @@ impl<'a> Image<'a> {
         candidate.commands()
     }
 
-    /// The first command with this `cmd`, or `None` if the image has none. It may have several: the
-    /// rules forbid that of some only.
+    /// The first command with this `cmd`, or `None` if the image has none. It may have several, because the
+    /// rules forbid a second command for some kinds only.
     pub fn first_command(&self, cmd: u32) -> Option<Command<'a>>
         ensures { option_map command_of result ≡ option_map (command_at self.now)
             (first_with_cmd self.now cmd (commands_of self.now)) }
@@ -197,7 +197,7 @@ impl<'a> Image<'a> {
         }
     }
 
-    // The place of the command with this `cmd`, of which an image has at most one. Its structure lies
+    // The place of the command with this `cmd`, which an image has at most once. Its structure lies
     // inside the image.
     pub(crate) fn place_of(&self, cmd: u32) -> Option<u64>
         requires { IsUnique cmd }

@@ -68,7 +68,7 @@ impl<'a> Image<'a> {
         }
     }
 
-    /// The indirect entry with this index in the table, or `None` if there is none. It does not
+    /// The indirect entry with this index in the table, or `None` past its end. It does not
     /// scan the entries before it.
     pub fn indirect(&self, index: u64) -> Option<Indirect>
         ensures { result ≡ slice_get (map (indirect_at self.now)

@@ -53,7 +53,7 @@ impl CommandRange {
     }
 }
 
-/// Where an image has the commands of which there is at most one, its segments, and the commands that
+/// Where an image has the commands that it has at most once, its segments, and the commands that
 /// name a table. With them an image is opened again without another scan.
 #[derive(Clone, Copy)]
 pub struct Landmarks {
@@ -92,7 +92,7 @@ impl Landmarks {
     }
 
     // Notes the command of this structure and with this index, from 0 on, after those before it.
-    // Returns whether it is a second one of which an image has at most one.
+    // Returns whether it is a second one of a kind that an image has at most once.
     pub(crate) fn note(&mut self, command: Command, structure: Structure, index: u32) -> bool
         requires listed { structure_of command.cmd ≡ Some structure }
         requires segments { self.old.segments.before + self.old.segments.count ≤ index }

@@ -47,7 +47,7 @@ impl<'a> Iterator for Rpaths<'a> {
 }
 
 impl<'a> Image<'a> {
-    /// The run paths: those of the `LC_RPATH` commands, in the order of the commands. Each is
+    /// The run paths, from the `LC_RPATH` commands, in the order of the commands. Each is
     /// borrowed from the image, without the zero byte that ends it.
     pub fn rpaths(&self) -> Rpaths<'a>
         ensures { result ≡ rpaths_of self.now (commands_of self.now) }

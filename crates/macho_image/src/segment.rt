@@ -92,7 +92,7 @@ impl<'a> Segment<'a> {
         long_in(self.image, self.place, FILESIZE)
     }
 
-    /// Its memory: `vmsize` bytes from `vmaddr` on. There is none where it is not mapped.
+    /// Its memory: `vmsize` bytes from `vmaddr` on. It is empty where it is not mapped.
     pub fn memory(&self) -> Span
         ensures start { result.start ≡ vmaddr self.now.image self.now.place }
         ensures len { result.len ≡ vmsize self.now.image self.now.place }

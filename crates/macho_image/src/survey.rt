@@ -97,7 +97,7 @@ impl<'a> CommandSurvey<'a> {
         self.command_short.judge(Rule::CommandShort)
     }
 
-    // The rule `command-repeated`: no command of which an image has at most one is a second one.
+    // The rule `command-repeated`: a command that an image has at most once does not come twice.
     pub(crate) fn command_repeated(&self) -> Result<(), Break>
         requires passed { HasPassedAll self.now }
         requires kept { KeptBelow (breaks_of self.now.candidate) (rank Rule.CommandRepeated) }

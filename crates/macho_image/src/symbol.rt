@@ -86,7 +86,7 @@ impl<'a> Image<'a> {
         self.symbols().range(first, count)
     }
 
-    /// The symbol with this index in the table, or `None` if there is none. It does not scan the
+    /// The symbol with this index in the table, or `None` past its end. It does not scan the
     /// symbols before it.
     pub fn symbol(&self, index: u64) -> Option<Symbol>
         ensures { result ≡ slice_get (map (symbol_at self.now)

@@ -99,7 +99,7 @@ impl<'a, E: TableEntry> TableEntries<'a, E> {
         }
     }
 
-    /// The entry with this index, or `None` if there is none. It does not scan the entries before it.
+    /// The entry with this index, or `None` past the end. It does not scan the entries before it.
     pub fn get(&self, index: u64) -> Option<E>
         ensures { result ≡ slice_get self.now index }
     {

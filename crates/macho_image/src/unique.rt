@@ -1,4 +1,4 @@
-//! The commands of which an image has at most one. (`mach-o/loader.h`: `load_command`)
+//! The commands that an image has at most once. (`mach-o/loader.h`: `load_command`)
 
 ghost use Rattle.std.specs.Prelude.{◌≡◌, ◌<◌, ◌∷◌, ◌++◌, ◌↔◌, [], ℕ, List, None, IsTrue, IsSome};
 ghost use Rattle.macho_fields.specs.Image.{command_cmd};
@@ -9,8 +9,8 @@ ghost use Rattle.macho_image.specs.Walk.{AreFirst};
 use crate::command::Command;
 use macho_fields::{UNIQUE_COUNT, unique_index};
 
-// For each of these commands, at its `macho_fields::unique_index`, the place of the first one, or 0 if
-// there is none: no command is at 0, where the header is.
+// For each unique command, at its `macho_fields::unique_index`, the place of the first one, or 0 if
+// the image does not have it: the header is at 0.
 #[derive(Clone, Copy)]
 pub(crate) struct UniquePlaces {
     places: [u64; UNIQUE_COUNT],

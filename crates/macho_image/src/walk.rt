@@ -71,7 +71,7 @@ pub(crate) fn arch_mismatch(candidate: Candidate) -> Result<(), Break>
     Ok(())
 }
 
-// Whether the header has this `cputype` and this `cpusubtype`, but for the capability bits.
+// Whether the header has this `cputype` and this `cpusubtype`, without the capability bits.
 fn has_arch(image: Bytes, cputype: u32, cpusubtype: u32) -> bool
     requires { MACH_HEADER_64_SIZE ≤ length (bytes_of image) }
     ensures { IsTrue result ↔ (cputype ≡ cpu_type (bytes_of image.entry))

@@ -38,7 +38,7 @@ use Rattle.macho_opcodes.proofs.TableSurveys.{stream_named, stream_inside}
 use Rattle.macho_tables.proofs.Places.{info_has}
 use Rattle.macho_opcodes.proofs.Within.{step_within}
 
--- Two lists that agree as far as both go: an opcode that one has is that of the other, but for the last
+-- Two lists that agree as far as both go: an opcode that one has is the other's, except the last
 module _ (of : Opcodes) (xs ys : List ℕ) (agree : (k : ℕ) → k < length xs → k < length ys → get_or xs k 0 ≡ get_or ys k 0) where
   -- the shorter one is the front of the longer
   front : length xs ≤ length ys → take (length xs) ys ≡ xs
@@ -117,7 +117,7 @@ module _ (image : List ℕ) (kept : NothingBreaks (BreaksImage image)) (unbroken
           let (listed, names) = info_names command info in
           same_in_memory image (λ place broken. kept rule.TableHome place broken) command listed names table has home is_at.found memory still k less
 
-      -- the opcode that the loader takes is that of the file
+      -- the opcode that the loader takes is the file's
       opcode_there : (place : ℕ) (before : List Step) → AreSteps of stream before place → place < length stream → (r : Step × ℕ) × (step_at of stream place ≡ Some r)
       opcode_there place before chain less =
           let (steps, all) = harmless.decoded of stream are in

@@ -12,6 +12,7 @@ use Rattle.macho_fields.specs.declared.rule.Rule.{Rule}
 use Rattle.macho_fields.specs.declared.rule.Rule.TheVariants as rule
 use Rattle.macho_fields.proofs.Opened.{command_inside}
 use Rattle.macho_fields.proofs.Options.{some_of}
+use Rattle.macho_fields.proofs.Parts.{with_cmd_among}
 use Rattle.macho_image.proofs.ReadParts.{length-part}
 use Rattle.macho_rules.proofs.Judged.{opened_facts, opened_commands}
 use Rattle.macho_rules.proofs.Verdicts.{unbroken_opened}
@@ -27,6 +28,7 @@ use Rattle.macho_opcodes.specs.declared.streams.Stream.TheVariants as streams
 use Rattle.macho_chains.proofs.ChainTables.{no_header, bad_starts, bad_imports, long_names, unknown_library, chains_near}
 use Rattle.macho_tables.proofs.DataInCode.{bad_entry_near}
 use Rattle.macho_tables.proofs.DataTables.{data_near, data_table_inside}
+use Rattle.macho_tables.proofs.InitOffsets.{init_offset_near}
 use Rattle.macho_exports.proofs.ExportTables.{node_inside, total_inside, terminal_inside, library_inside, address_inside}
 use Rattle.macho_chains.proofs.PointerSurveys.{slots_near, binds_near}
 use Rattle.macho_tables.proofs.StartNumbers.{bad_number_near, stray_start_near}
@@ -37,7 +39,8 @@ use Rattle.macho_signature.specs.Signature.{BadDirectory, PartialDirectory, InSi
 use Rattle.macho_signature.specs.Superblobs.{BadBlob}
 use Rattle.macho_signature.proofs.Images.{blob_near, directory_near, whole_near}
 use Rattle.macho_symbols.specs.Symbols.{LacksLibrary, IsAstraySymbol, IsEndless}
-use Rattle.macho_symbols.proofs.Near.{symbol_near, relocation_near}
+use Rattle.macho_symbols.specs.Indirects.{IsBadIndirects}
+use Rattle.macho_symbols.proofs.Near.{symbol_near, section_place_near, relocation_near}
 
 part_short : (start size : ℕ) (bytes : List ℕ) (offset : ℕ) → offset < length (part start size bytes) → start + offset ≤ length bytes
 part_short start size bytes offset less =
@@ -71,7 +74,7 @@ module _ (image : List ℕ) (none : NothingBreaks (Breaks image None)) where
       let opened = unbroken_opened image none in
       let inside = command_inside image (commands_of image) (opened_facts image opened) (opened_commands image opened) command has in omega (arith, inside)
 
-  -- that of the command that names the chained fixups
+  -- the place of the command that names the chained fixups
   fixups_inside : (place : ℕ) → InNoBytes image place → place ≤ length image
   fixups_inside place empty =
       let (command, is, (same, no_bytes)) = some_of (λ c. (place ≡ c) × ((table_at image c linkedit_data_table).1 ≡ 0)) (chained_fixups image) empty in
@@ -116,12 +119,15 @@ module _ (image : List ℕ) (none : NothingBreaks (Breaks image None)) where
   place_inside rule.FunctionNumber place broken = data_near image loader.LC_FUNCTION_STARTS refl none BadNumber (bad_number_near image) place broken
   place_inside rule.FunctionStart place broken = data_near image loader.LC_FUNCTION_STARTS refl none StrayStart (stray_start_near image) place broken
   place_inside rule.DataInCode place broken = data_near image loader.LC_DATA_IN_CODE refl none BadEntry (bad_entry_near image) place broken
+  place_inside rule.InitOffset place broken = init_offset_near image none place broken
   place_inside rule.SignatureBlob place broken = signature_inside (λ start. BadBlob) (λ start. blob_near) place broken
   place_inside rule.SignatureDirectory place broken = signature_inside BadDirectory directory_near place broken
   place_inside rule.SignatureWhole place broken = signature_inside PartialDirectory whole_near place broken
   place_inside rule.SymbolLibrary place broken = symbol_near image none (λ symtab symbol. LacksLibrary image (symbol_at image symbol)) place broken
   place_inside rule.SymbolValue place broken = symbol_near image none (λ symtab symbol. IsAstraySymbol image (symbol_at image symbol)) place broken
   place_inside rule.SymbolIndirect place broken = symbol_near image none (λ symtab symbol. IsEndless image symtab (symbol_at image symbol)) place broken
+  place_inside rule.IndirectRange place broken = section_place_near image none (IsBadIndirects image) place broken
+  place_inside rule.ObsoleteTable place broken = listed_inside place (with_cmd_among image (commands_of image) loader.LC_DYSYMTAB place broken.0)
   place_inside rule.Relocation place broken = relocation_near image none place broken
   place_inside rule.Thread place broken = listed_inside place broken.0
   place_inside rule.CommandContent place broken = listed_inside place broken.0

@@ -14,12 +14,14 @@ use Rattle.macho_linked.specs.Dyld.{IsFollowedSafely}
 use Rattle.macho_linked.specs.Harmless.{IsHarmless}
 use Rattle.macho_linked.specs.Linked.{IsLinked}
 use Rattle.macho_linked.specs.Located.{IsLocated}
+use Rattle.macho_linked.specs.LookedUp.{IsLookedUpSafely}
 use Rattle.macho_linked.specs.Rules.{BreaksImage, IsLinkedUnbroken}
 use Rattle.macho_signature.specs.Signed.{IsSigned}
 use Rattle.macho_signature.proofs.Signed.{signed_image}
 use Rattle.macho_linked.proofs.Dyld.{followed_safely}
 use Rattle.macho_linked.proofs.Harmless.{harmless_image, of_images}
 use Rattle.macho_linked.proofs.Located.{located_image}
+use Rattle.macho_linked.proofs.LookedUp as lookups
 
 image_chained_safely : (image : List ℕ) → NothingBreaks (BreaksImage image) → NothingBreaks (layout.BreaksImage image None) → IsChainedSafely image
 image_chained_safely image kept = chained_safely image (λ place broken. kept rule.TableHome place broken) (record {
@@ -40,6 +42,7 @@ file_linked file unbroken linked = record {
   exports = of_images AreSoundExports
       (λ image kept layout. sound_exports image (kept rule.ExportNode) (kept rule.ExportTotal) (kept rule.ExportTerminal) (kept rule.ExportLibrary) (kept rule.ExportAddress)) file unbroken linked;
   located = of_images IsLocated located_image file unbroken linked;
+  looked_up = of_images IsLookedUpSafely lookups.looked_up file unbroken linked;
   signed = of_images IsSigned
       (λ image kept layout. signed_image image (kept rule.SignatureBlob) (kept rule.SignatureDirectory) (kept rule.SignatureWhole)) file unbroken linked;
   commands = of_images HasSoundCommands (λ image kept layout. sound_commands image (kept rule.Thread) (kept rule.CommandContent)) file unbroken linked;

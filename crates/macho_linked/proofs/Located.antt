@@ -1,32 +1,36 @@
--- Where the functions and the data in code of an image that breaks no rule are.
-use Rattle.std.proofs.Common.{◌≡◌, ℕ, zero, suc, ◌+◌, ◌%◌, ◌^◌, ◌<◌, ◌⊎◌, List, [], ◌∷◌, ◌++◌, length, drop, Bool, true, false, All, Any, Option, Some, None, cond, refl, sym, ap, ◌∙◌, subst, arith, inl, inr}
+-- Where the functions, the data in code and the initializers of an image that breaks no rule are.
+use Rattle.std.proofs.Common.{◌≡◌, ℕ, zero, suc, ◌+◌, ◌*◌, ◌%◌, ◌^◌, ◌<◌, ◌⊎◌, List, [], ◌∷◌, ◌++◌, length, drop, Bool, true, false, All, Any, Option, Some, None, cond, refl, sym, ap, ◌∙◌, subst, arith, inl, inr}
 use Rattle.std.specs.Prelude.{◌&&◌, nat_lt, sum}
 use Rattle.std.specs.Option.{option_and_then, option_map_or}
-use Rattle.std.proofs.lemmas.Bool.{and_parts, cases_Bool, cases_eq, ltb-true}
+use Rattle.std.proofs.lemmas.Bool.{and_parts, cases_Bool, cases_eq, cases_lt, ltb-true}
 use Rattle.std.proofs.lemmas.List.{drop-drop}
 use Rattle.std.proofs.lemmas.List.Elements.{All-cons}
 use Rattle.std.proofs.lemmas.List.Sums.{sum_by_push}
 use Rattle.macho_fields.specs.Field.{part}
-use Rattle.macho_fields.specs.Image.{commands_of}
+use Rattle.macho_fields.specs.Image.{word, commands_of}
 use Rattle.macho_fields.specs.Layers.{NothingBreaks}
 use Rattle.macho_fields.specs.Rules.{BreaksImage as Breaks}
-use Rattle.macho_fields.specs.Segment.{all_segments, base_of, fileoff}
+use Rattle.macho_fields.specs.Segment.{all_segments, base_of, fileoff, section_size, IsExecutable}
 use Rattle.macho_fields.specs.declared.header.loader.TheConstants as loader
 use Rattle.macho_fields.specs.declared.rule.Rule.TheVariants as rule
-use Rattle.macho_fields.proofs.Decided.{not_not, any_or_not, both_or_not, le_or_not}
+use Rattle.macho_fields.proofs.Decided.{not_not, any_or_not, both_or_not, some_or_not, le_or_not}
+use Rattle.macho_commands.proofs.SoundCommands.{executable_or_not}
+use Rattle.macho_image.specs.Segment.{sections_of}
 use Rattle.macho_image.proofs.ReadParts.{length-part}
+use Rattle.macho_rules.proofs.Searches.{any_of}
 use Rattle.macho_spans.specs.Span.{end_of}
 use Rattle.macho_spans.specs.declared.span.Span.{Span}
 use Rattle.macho_strict.specs.Unclaimed.{is_code}
 use Rattle.macho_tables.specs.DataInCode.{entry_at, entry_place, entry_count, is_known_kind, bytes_of_entry, IsCodeOf, IsBadEntry, BadEntry}
 use Rattle.macho_tables.specs.FunctionStarts.{next_start, starts_up_to, function_starts}
 use Rattle.macho_tables.specs.Homes.{bytes_of_segment}
-use Rattle.macho_linked.specs.Located.{IsLocatedEntry, IsLocated}
+use Rattle.macho_linked.specs.Located.{IsLocatedEntry, IsLocatedOffset, IsLocated}
 use Rattle.macho_tables.specs.Numbers.{number_bytes, digits_value, unsigned_at}
 use Rattle.macho_linked.specs.Rules.{BreaksImage}
 use Rattle.macho_tables.specs.StartNumbers.{AreNumbers, IsFileAddress, StrayStart}
 use Rattle.macho_tables.specs.declared.data_in_code.DataInCodeEntry.{DataInCodeEntry}
 use Rattle.macho_tables.proofs.DataTables.{broken_in_image, data_table_inside}
+use Rattle.macho_tables.specs.InitOffsets.{HasOffsets, IsCalled, IsBadOffset, BadOffset, offset_place}
 use Rattle.macho_tables.proofs.FileBytes.{file_or_not}
 use Rattle.macho_tables.proofs.StartNumbers.{numbers_more, stray_here}
 
@@ -107,6 +111,17 @@ entry_located image entry good = record {
   bytes = λ some. not_not (code_or_not image (bytes_of_entry entry)) (λ none. good (inr (some, none)));
 }
 
+-- no offset is bad
+called_or_not : (image : List ℕ) (place : ℕ) → IsCalled image place ⊎ ¬ IsCalled image place
+called_or_not image place =
+    some_or_not (λ base. IsExecutable image (commands_of image) (base + word image place)) (λ base. executable_or_not image (base + word image place)) (base_of image (commands_of image))
+
+offset_located : (image : List ℕ) (section k : ℕ) → ¬ IsBadOffset image section k → IsLocatedOffset image section k
+offset_located image section k good = record {
+  whole = not_not (le_or_not (k * 4 + 4) (section_size image section)) (λ cut. good (inl (elim (cases_lt (section_size image section) (k * 4 + 4)) [ inl less ↦ less | inr fits ↦ absurd (cut fits) ])));
+  called = not_not (called_or_not image (offset_place image section k)) (λ none. good (inr none));
+}
+
 module _ (image : List ℕ) (kept : NothingBreaks (BreaksImage image)) (unbroken : NothingBreaks (Breaks image None)) where
   pub located_image : IsLocated image
   located_image = record {
@@ -119,4 +134,7 @@ module _ (image : List ℕ) (kept : NothingBreaks (BreaksImage image)) (unbroken
         let good : (place : ℕ) → ¬ BadEntry image bytes place = (λ place bad. kept rule.DataInCode (table.start + place) (broken_in_image image loader.LC_DATA_IN_CODE table is BadEntry place bad)) in
         let whole : length bytes % 8 ≡ 0 = elim (cases_eq (length bytes % 8) 0) [ inl none ↦ none | inr rest ↦ absurd (good 0 (inl (refl, rest))) ] in
         (entry_count bytes, omega (arith, size, whole), λ k less. entry_located image (entry_at bytes (entry_place k)) (λ bad. good (entry_place k) (inr (k, less, refl, bad))));
+    initializers = λ section among has k less. offset_located image section.1 k
+        (λ bad. kept rule.InitOffset (offset_place image section.1 k)
+        (any_of (λ s. HasOffsets image s.0 s.1 × BadOffset image s.1 (offset_place image section.1 k)) (sections_of image (commands_of image)) section among (has, (k, less, refl, bad))));
   }

@@ -1,4 +1,4 @@
--- Where an image that breaks no rule names linked data, each segment named __TEXT has its base.
+-- In an image that breaks no rule, each segment named __TEXT has the base.
 use Rattle.std.proofs.Common.{◌≡◌, ℕ, ◌⊎◌, List, Any, Contains, Bool, true, Some, refl, ap, inl, inr}
 use Rattle.std.specs.Prelude.{codes}
 use Rattle.std.specs.List.{find}
@@ -15,7 +15,7 @@ use Rattle.macho_fields.proofs.Decided.{not_not, both_or_not, any_or_not, some_o
 use Rattle.macho_fields.proofs.Options.{some_of}
 use Rattle.macho_image.specs.Segment.{segment_name}
 use Rattle.macho_rules.proofs.Searches.{any_of}
-use Rattle.macho_tables.specs.Homes.{HasLinkedData, IsTextElsewhere, IsSafeBase, HasSafeBase}
+use Rattle.macho_tables.specs.Homes.{IsTextElsewhere, IsSafeBase, HasSafeBase}
 use Rattle.macho_linked.specs.Rules.{BreaksImage}
 use Rattle.macho_tables.specs.Segments.{is_constant, IsText}
 
@@ -45,11 +45,11 @@ module _ (image : List ℕ) where
   base_or_not : HasSafeBase image ⊎ ¬ HasSafeBase image
   base_or_not = some_or_not (IsSafeBase image) safe_or_not (find (shows_start image) (all_segments image))
 
-module _ (image : List ℕ) (kept : NothingBreaks (BreaksImage image)) (some : Any (HasLinkedData image) (commands_of image)) where
+module _ (image : List ℕ) (kept : NothingBreaks (BreaksImage image)) where
   pub text_at_base : (base : ℕ) × (base_of image (commands_of image) ≡ Some base) × Any (IsText image) (all_segments image)
       × ((s : ℕ) → Contains (all_segments image) s → IsText image s → vmaddr image s ≡ base)
   text_at_base =
-      let safe = not_not (base_or_not image) (λ unsafe. kept rule.HeaderHome 0 (refl, some, unsafe)) in
+      let safe = not_not (base_or_not image) (λ unsafe. kept rule.HeaderHome 0 (refl, unsafe)) in
       let (b, is, (constant, (named, none))) = some_of (IsSafeBase image) (find (shows_start image) (all_segments image)) safe in (
         vmaddr image b,
         ap (option_map (vmaddr image)) is,

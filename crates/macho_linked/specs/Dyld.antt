@@ -1,5 +1,5 @@
 -- The plain dyld: a dynamic loader that follows the opcodes of a stream in memory, and checks nothing.
--- Memory has a byte for each address, and is that of an image loaded at its base, which is where the segments
+-- Memory has a byte for each address, and has an image loaded at its base, which is where the segments
 -- named __TEXT are (header-home). The loader takes segments as the headers of the file have them: these lie in
 -- memory that stays as it is in the file (header-home, IsKept).
 use Rattle.std.specs.Prelude.{◌≡◌, ℕ, zero, suc, ◌+◌, ◌*◌, ◌≤◌, ◌<◌, ◌⊎◌, List, length, Any, Contains, Some, true, slice_get, slice_index, IsSomeAnd}
@@ -70,11 +70,11 @@ pub record BeginsInMemory (image : List ℕ) (of : Opcodes) (table : ℕ × ℕ 
 
 -- What is promised of the loader after n opcodes of such a stream
 pub record IsSafe (image : List ℕ) (of : Opcodes) (stream : List ℕ) (home n : ℕ) (a : State) : Type 0 where
-  -- it has followed opcodes of the file, of which there is at most one for each byte of the stream
+  -- it has followed opcodes of the file, at most one for each byte of the stream
   pub ends : n ≤ length stream
   pub follows : (before : List Step) × (length before ≡ n) × AreSteps of stream before a.place
       × (a.cursor ≡ cursor_after before)
-  -- the stream in memory is still that of the file, and so is all that no loader writes
+  -- the stream in memory is still the file's, and so is all that no loader writes
   pub same : (k : ℕ) → k < length stream → a.memory (home + k) ≡ slice_index stream k
   pub kept : IsKept image a.memory
   -- the opcode that comes next lies in the stream, with its operands

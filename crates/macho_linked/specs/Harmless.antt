@@ -1,5 +1,5 @@
 -- What the opcodes of an image that breaks no rule ask of a dynamic loader: which pointers it writes, and
--- where. The memory of a loader is no part of it.
+-- where. It does not say what the memory of a loader has.
 use Rattle.std.specs.Prelude.{◌≡◌, ℕ, ◌+◌, ◌*◌, ◌≤◌, ◌<◌, List, [], ◌∷◌, length, map, Any, Contains, Some, true, slice_get, IsSomeAnd}
 use Rattle.macho_fields.specs.Field.{part}
 use Rattle.macho_fields.specs.Image.{commands_of}
@@ -7,7 +7,7 @@ use Rattle.macho_fields.specs.Segment.{all_segments, base_of, vmaddr, filesize, 
 use Rattle.macho_fields.specs.Symbol.{table_at}
 use Rattle.macho_fields.specs.Universal.{OfEachImage}
 use Rattle.macho_opcodes.specs.Cursor.{cursor_after}
-use Rattle.macho_tables.specs.Homes.{IsHome, HasLinkedData}
+use Rattle.macho_tables.specs.Homes.{IsHome}
 use Rattle.macho_opcodes.specs.Images.{opcodes_of, fields_of}
 use Rattle.macho_tables.specs.Places.{dyld_info}
 use Rattle.macho_tables.specs.Limits.{budget_of, library_count}
@@ -84,10 +84,9 @@ pub record IsHarmless (image : List ℕ) : Type 0 where
   pub apart : (s home address : ℕ) (table : Span) → Contains (all_segments image) s
       → Contains (all_segments image) home → is_writable image s ≡ true → IsHome table image home
       → Supplies image s address → ¬ Supplies image home address
-  -- where commands name linked data, a loader that takes the slide from a segment by its name has the right
-  -- one: some segment is named __TEXT, and each one that is has the base as its address
-  pub text : Any (HasLinkedData image) (commands_of image)
-      → (base : ℕ) × (base_of image (commands_of image) ≡ Some base) × Any (IsText image) (all_segments image)
+  -- a loader that takes the slide from a segment by its name has the right one: some segment is named __TEXT, and
+  -- each one that is has the base as its address
+  pub text : (base : ℕ) × (base_of image (commands_of image) ≡ Some base) × Any (IsText image) (all_segments image)
       × ((s : ℕ) → Contains (all_segments image) s → IsText image s → vmaddr image s ≡ base)
 
 -- of a file: each 64-bit slice is such an image

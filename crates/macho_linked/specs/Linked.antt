@@ -8,6 +8,7 @@ use Rattle.macho_exports.specs.ExportLaw.{HasSoundExports}
 use Rattle.macho_linked.specs.Dyld.{AreFollowedSafely}
 use Rattle.macho_linked.specs.Harmless.{AreHarmless}
 use Rattle.macho_linked.specs.Located.{AreLocated}
+use Rattle.macho_linked.specs.LookedUp.{AreLookedUpSafely}
 use Rattle.macho_linked.specs.Rules.{IsLinkedUnbroken}
 use Rattle.macho_signature.specs.Signed.{AreSigned}
 use Rattle.macho_strict.specs.Accounted.{IsAccounted}
@@ -24,8 +25,10 @@ pub record IsLinked (file : List ℕ) : Type 0 where
   -- each node of its export tries has an export that leads to what is there, or none, and no look-up of a name is cut
   -- by its bounds
   pub exports : HasSoundExports file
-  -- its functions and its data in code are bytes of the file
+  -- its functions and its data in code are bytes of the file, and its initializers are executable ones
   pub located : AreLocated file
+  -- a reader without bounds stays in the indirect symbol table when it looks up what stubs and pointers are for
+  pub looked_up : AreLookedUpSafely file
   -- its code signatures cover the bytes before them, and a reader without bounds stays in them
   pub signed : AreSigned file
   -- what its threads and its other commands name is there

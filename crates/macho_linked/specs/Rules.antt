@@ -11,9 +11,12 @@ use Rattle.macho_tables.specs.DataInCode.{BreaksDataInCode}
 use Rattle.macho_exports.specs.Exports.{BreaksExportNode, BreaksExportTotal, BreaksExportTerminal, BreaksExportLibrary, BreaksExportAddress}
 use Rattle.macho_tables.specs.Homes.{BreaksTableHome, BreaksHeaderHome}
 use Rattle.macho_opcodes.specs.Images.{Undecoded, NoLibrary, NoName, NoSlot, TooMany, TooLong, InRebases, InBinds}
+use Rattle.macho_tables.specs.InitOffsets.{BreaksInitOffset}
 use Rattle.macho_tables.specs.Kinds.{BreaksTableRepeated, BreaksFunctionVariants}
 use Rattle.macho_tables.specs.StartNumbers.{BreaksFunctionNumber, BreaksFunctionStart}
 use Rattle.macho_signature.specs.Signature.{BreaksSignatureBlob, BreaksSignatureDirectory, BreaksSignatureWhole}
+use Rattle.macho_symbols.specs.Indirects.{BreaksIndirectRange}
+use Rattle.macho_symbols.specs.Obsolete.{BreaksObsoleteTable}
 use Rattle.macho_symbols.specs.Relocations.{BreaksRelocation}
 use Rattle.macho_symbols.specs.Symbols.{BreaksSymbolLibrary, BreaksSymbolValue, BreaksSymbolIndirect}
 use Rattle.macho_commands.specs.Commands.{BreaksThread, BreaksCommandContent}
@@ -49,12 +52,15 @@ BreaksImage image rule.ExportAddress place = BreaksExportAddress image place
 BreaksImage image rule.FunctionNumber place = BreaksFunctionNumber image place
 BreaksImage image rule.FunctionStart place = BreaksFunctionStart image place
 BreaksImage image rule.DataInCode place = BreaksDataInCode image place
+BreaksImage image rule.InitOffset place = BreaksInitOffset image place
 BreaksImage image rule.SignatureBlob place = BreaksSignatureBlob image place
 BreaksImage image rule.SignatureDirectory place = BreaksSignatureDirectory image place
 BreaksImage image rule.SignatureWhole place = BreaksSignatureWhole image place
 BreaksImage image rule.SymbolLibrary place = BreaksSymbolLibrary image place
 BreaksImage image rule.SymbolValue place = BreaksSymbolValue image place
 BreaksImage image rule.SymbolIndirect place = BreaksSymbolIndirect image place
+BreaksImage image rule.IndirectRange place = BreaksIndirectRange image place
+BreaksImage image rule.ObsoleteTable place = BreaksObsoleteTable image place
 BreaksImage image rule.Relocation place = BreaksRelocation image place
 BreaksImage image rule.Thread place = BreaksThread image place
 BreaksImage image rule.CommandContent place = BreaksCommandContent image place

@@ -9,11 +9,12 @@ use Rattle.macho_strict.specs.Verdict.{IsStrictRefusal}
 use Rattle.macho_tables.specs.CodeParts.{HasSeveralCodeParts}
 use Rattle.macho_exports.specs.Exports.{HasExports}
 use Rattle.macho_tables.specs.FileBytes.{HasManySegments}
+use Rattle.macho_tables.specs.InitOffsets.{HasInitOffsets}
 use Rattle.macho_linked.specs.Rules.{IsFirstLinkedBroken}
 
--- An image has exports, many mapped segments, or several that may be executed.
+-- An image has exports, many mapped segments, several that may be executed, or offsets of initializers.
 abbrev pub TakesMemory : List ℕ → Type 0
-TakesMemory image = HasExports image ⊎ HasManySegments image ⊎ HasSeveralCodeParts image
+TakesMemory image = HasExports image ⊎ HasManySegments image ⊎ HasSeveralCodeParts image ⊎ HasInitOffsets image
 
 -- The linked verdict on a file takes memory where the strict one does not: the file breaks no rule of that, and
 -- a scope takes some.

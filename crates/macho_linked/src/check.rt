@@ -23,11 +23,11 @@ use macho_image::Image;
 use macho_opcodes::streams::StreamSurveys;
 use macho_rules::{ProfileRules, Refusal};
 use macho_signature::SignatureSurvey;
-use macho_symbols::SymbolSurvey;
-use macho_symbols::relocations::relocation;
+use macho_symbols::{SymbolSurvey, indirect_range, obsolete_table, relocation};
 use macho_tables::data_in_code::data_in_code;
 use macho_tables::function_starts::FunctionStartSurvey;
 use macho_tables::homes::{header_home, table_home};
+use macho_tables::init_offsets::init_offset;
 use macho_tables::kinds::{function_variants, table_repeated};
 use std::alloc::Global;
 
@@ -48,7 +48,7 @@ pub(crate) fn check_image(alloc: Global, image: &Image) -> Result<(), Refusal>
     Ok(())
 }
 
-// The rules up to those of what a loader writes.
+// The rules before the rules about what a loader writes.
 fn check_fixups(image: &Image) -> Result<(), Break>
     requires { NothingBreaks (Breaks image.now None) }
     ensures { Continues (BreaksImage image.now) Rule.ChainBind result }
@@ -105,17 +105,18 @@ fn judge_exports(image: &Image, exports: ExportSurvey) -> Result<(), Break>
     Ok(())
 }
 
-// The rules of functions and of data in code.
+// The rules of functions, of data in code and of initializers.
 fn check_functions(alloc: Global, image: &Image) -> Result<(), Refusal>
     requires layout { NothingBreaks (Breaks image.now None) }
     requires strictly { NothingBreaks (BreaksStrictImage image.now) }
     requires kept { KeptBelow (BreaksImage image.now) (rank Rule.FunctionNumber) }
-    ensures { ContinuesWithMemory (BreaksImage image.now) Rule.DataInCode (TakesMemory image.now) result }
+    ensures { ContinuesWithMemory (BreaksImage image.now) Rule.InitOffset (TakesMemory image.now) result }
 {
     let functions = FunctionStartSurvey::of(alloc, image)?;
     Linked::judge(image, Rule::FunctionNumber, functions.number)?;
     Linked::judge(image, Rule::FunctionStart, functions.start)?;
     Linked::judge(image, Rule::DataInCode, data_in_code(alloc, image)?)?;
+    Linked::judge(image, Rule::InitOffset, init_offset(alloc, image)?)?;
     Ok(())
 }
 
@@ -143,7 +144,7 @@ fn check_symbols(alloc: Global, image: &Image) -> Result<(), Refusal>
     Ok(())
 }
 
-// Those rules, by where those of symbols are first broken.
+// These rules, by where the rules of symbols are first broken.
 fn judge_symbols(image: &Image, symbols: SymbolSurvey) -> Result<(), Break>
     requires layout { NothingBreaks (Breaks image.now None) }
     requires kept { KeptBelow (BreaksImage image.now) (rank Rule.SymbolLibrary) }
@@ -153,6 +154,8 @@ fn judge_symbols(image: &Image, symbols: SymbolSurvey) -> Result<(), Break>
     Linked::judge(image, Rule::SymbolLibrary, symbols.library)?;
     Linked::judge(image, Rule::SymbolValue, symbols.value)?;
     Linked::judge(image, Rule::SymbolIndirect, symbols.indirect)?;
+    Linked::judge(image, Rule::IndirectRange, indirect_range(image))?;
+    Linked::judge(image, Rule::ObsoleteTable, obsolete_table(image))?;
     Linked::judge(image, Rule::Relocation, relocation(image))?;
     Ok(())
 }

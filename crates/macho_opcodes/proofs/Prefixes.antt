@@ -56,7 +56,7 @@ module _ (xs ys : List ℕ) where
   unfolding signed_at
   signed_same place inside r is = and_then_same _ place inside (number_bytes (drop place xs)) refl r is
 
-  -- what is read of the bytes is read of the longer ones, but for the last opcode
+  -- what is read of the bytes is read of the longer ones, except the last opcode
   record Same (Last : Type 0) (x y : Option (Step × ℕ)) : Type 0 where
     same : (r : Step × ℕ) → x ≡ Some r → Last ⊎ (y ≡ Some r)
 

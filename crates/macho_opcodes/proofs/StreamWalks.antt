@@ -22,7 +22,7 @@ IsLeastBelow P end found =
     (λ least. P least × ((place : ℕ) → P place → least ≤ place))
 
 module _ (P : ℕ → Type 0) where
-  -- one place is passed, with P or without, and those between it and the next one have not P
+  -- one place is passed, with P or without, and all places between it and the next one are without P
   pub below_more : (place next : ℕ) (broken : Type 0) (old new : Option ℕ) → IsLeastBelow P place old → IsNoted broken place old new
       → (broken → P place) → (P place → broken) → ((between : ℕ) → place < between → between < next → P between → ⊥)
       → IsLeastBelow P next new
@@ -98,7 +98,7 @@ module _ (done : List Step → ℕ) (P : Cursor → ℕ → Step → Type 0) (of
             let within = step_within of stream place first end_of begins in
             let more = steps_rise of stream rest end_of place on in absurd (omega arith)
 
-    -- and there is none up to its end
+    -- and no place is with P up to its end
     pub none_between : (between : ℕ) → place < between → between < after → At done P of stream between → ⊥
     none_between between past less (others, next, end, chain, there, has) =
         let (rest, on, is) = steps_on of stream before others 0 place between are chain (omega arith) in

@@ -65,7 +65,7 @@ module _ (image : List ℕ) where
     names = none TooLong too_long;
   }
 
--- The places of a survey fit where those of the stream do
+-- The places of a survey fit where the stream's do
 pub survey_fits : (of : Opcodes) (stream : List ℕ) (limits : Limits) (survey : StreamSurvey) (start : ℕ) → IsStreamSurvey of stream limits survey → start + length stream < 2 ^ 64
     → FitsAt start survey
 survey_fits of stream limits survey start are fits = record {
@@ -146,7 +146,7 @@ pub least_of_none : (image : List ℕ) (X : ℕ → (List ℕ → Opcodes → Li
 least_of_none image X None is = least_unbroken image (λ Rule place. ⊥) (λ Rule inside place broken. broken)
 least_of_none image X (Some command) is = absurd (cc)
 
--- what those of the command break
+-- what the streams of the command break
 pub least_of_some : (X : ℕ → (List ℕ → Opcodes → List ℕ → ℕ → Type 0) → ℕ → Type 0) (survey : StreamSurvey) (info : Option ℕ) (command : ℕ) → info ≡ Some command
     → AreLeast (X command) survey → AreLeast (λ Rule place. IsSomeAnd info (λ command. X command Rule place)) survey
 least_of_some X survey None command is are = absurd (cc)

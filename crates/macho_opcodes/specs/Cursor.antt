@@ -42,7 +42,7 @@ abbrev pub writes : Step → ℕ
 writes (step.Write count skip) = count
 writes other = 0
 
--- how many bytes of a name a step looks up: those of a new one, with its zero byte, if it writes
+-- how many bytes of a name a step looks up: the bytes of a new one, with its zero byte, if it writes
 abbrev pub looks_up : Cursor → Step → ℕ
 looks_up cursor next =
     if writes next == 0 then 0
@@ -56,7 +56,7 @@ abbrev pub with_step : Totals → Cursor → Step → Totals
 with_step before cursor next =
     record { pointers = before.pointers + writes next; names = before.names + looks_up cursor next }
 
--- how many the steps look up of which the first is at a cursor
+-- how many the steps look up, where the first is at a cursor
 abbrev pub looked_up : Cursor → List Step → ℕ
 looked_up cursor [] = 0
 looked_up cursor (first ∷ steps) = looks_up cursor first + looked_up (moved cursor first) steps

@@ -12,7 +12,7 @@ use Rattle.macho_opcodes.specs.declared.step.Opcodes.TheVariants as opcodes
 use Rattle.macho_opcodes.specs.declared.step.Step.{Step}
 use Rattle.macho_opcodes.specs.declared.step.Step.TheVariants as step
 
--- A step, and the first place past the opcode and its operands. Each of these is none where an operand
+-- A step, and the first place past the opcode and its operands. Each is None where an operand
 -- is.
 
 -- an opcode with a number
@@ -65,7 +65,7 @@ rebase_step stream byte next =
     else (if code == opcode.REBASE_OPCODE_DO_REBASE_ULEB_TIMES_SKIPPING_ULEB then with_count_and_skip stream next
     else None))))))))
 
--- what an opcode of a bind stream says, but for DONE
+-- what an opcode of a bind stream says, except DONE
 unfoldable pub bind_step : List ℕ → ℕ → ℕ → Option (Step × ℕ)
 bind_step stream byte next =
     let code = bit_and byte opcode.BIND_OPCODE_MASK in
@@ -107,12 +107,12 @@ step_at of stream place =
     option_and_then (λ byte. opcode_step of stream byte (place + 1)) (slice_get stream place)
 
 -- The steps of a stream, from a place on: each begins where the one before it ends, and the last one ends
--- at next, which is start if there is none.
+-- at next, which is start without a step.
 abbrev pub AreStepsFrom : Opcodes → List ℕ → ℕ → List Step → ℕ → Type 0
 AreStepsFrom of stream start [] next = start ≡ next
 AreStepsFrom of stream start (first ∷ steps) next =
     (after : ℕ) × (step_at of stream start ≡ Some (first, after)) × AreStepsFrom of stream after steps next
 
--- these are all steps of a stream before a place, of which the first is at its start
+-- these are all steps of a stream before a place, and the first is at its start
 abbrev pub AreSteps : Opcodes → List ℕ → List Step → ℕ → Type 0
 AreSteps of stream steps place = AreStepsFrom of stream 0 steps place

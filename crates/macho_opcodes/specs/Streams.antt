@@ -12,7 +12,7 @@ use Rattle.macho_tables.specs.declared.limits.TheConstants as limit
 use Rattle.macho_opcodes.specs.declared.stream.Limits.{Limits}
 use Rattle.macho_opcodes.specs.declared.stream.StreamSurvey.{StreamSurvey}
 
--- the steps come up to the place, where an opcode should be, and there is none that says anything
+-- the steps come up to the place, where an opcode should be, and none is there that says anything
 abbrev pub IsUndecoded : Opcodes → List ℕ → ℕ → Type 0
 IsUndecoded of stream place =
     ((steps : List Step) × AreSteps of stream steps place) × (place < length stream)

@@ -98,7 +98,7 @@ impl Cursor {
         }
     }
 
-    /// How many bytes of a name the step looks up: those of a new one, if it writes.
+    /// How many bytes of a name the step looks up: the bytes of a new one, if it writes.
     pub fn looks_up(self, step: Step) -> u64
         ensures { result ≡ looks_up self step }
     {

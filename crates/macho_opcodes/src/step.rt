@@ -18,7 +18,7 @@ pub enum Opcodes {
     Rebase,
     /// Binds, or weak binds.
     Bind,
-    /// Lazy binds, in entries of which each ends with a DONE.
+    /// Lazy binds, in entries that each end with a DONE.
     LazyBind,
 }
 
@@ -77,7 +77,7 @@ impl Step {
 }
 
 /// What the opcode at `place` says, and the first place past it and its operands. It is `None` past the
-/// end, or if the opcode is not known, its type is no pointer, an operand does not end or is out of its
+/// end, or if the opcode is not known, its type is not a pointer, an operand does not end or is out of its
 /// range, or the opcode ends the stream and a byte that is not zero follows.
 #[tactic(auto, unfolding(crate::specs::Steps::step_at))]
 #[inline(always)]
@@ -116,7 +116,7 @@ fn rebase_step(stream: Bytes, byte: u8, next: u64) -> Option<(Step, u64)>
     }
 }
 
-// What an opcode of a bind stream says, but for DONE: its byte, and the first place past it.
+// What an opcode of a bind stream says, except DONE: its byte, and the first place past it.
 #[tactic(auto, unfolding(crate::specs::Steps::bind_step))]
 #[inline(always)]
 fn bind_step(stream: Bytes, byte: u8, next: u64) -> Option<(Step, u64)>

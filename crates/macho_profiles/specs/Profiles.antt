@@ -32,7 +32,7 @@ IsAcceptedBy Strict = KeepsStrict
 IsAcceptedBy Linked = KeepsLinked
 IsAcceptedBy Sealed = KeepsSealed
 
--- The refusal is the first broken rule, of those of the profiles up to this one; or that there was no memory, which is
+-- The refusal is the first broken rule, among the profiles up to this one; or that there was no memory, which is
 -- returned only if the verdict of the profile takes some.
 abbrev pub IsRefusedBy : Profile → List ℕ → Refusal → Type 0
 IsRefusedBy Layout = IsRefusal

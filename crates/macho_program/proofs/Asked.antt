@@ -68,7 +68,7 @@ pub asked_without_subcommand : (words : List Text) → 0 < length words → faul
     → asked_of words ≡ Err Usage
 asked_without_subcommand words some none is = sym (asked_of_some words some) ∙ without_subcommand _ _ none is
 
--- a fault of `clap` is that of the words, or of memory
+-- a fault of `clap` is about the words, or about memory
 usage_or_memory : (kind : ErrorKind) → (word_fault_of kind ≡ Usage) ⊎ (word_fault_of kind ≡ Memory)
 usage_or_memory OutOfMemory = inr refl
 usage_or_memory _ = inl refl

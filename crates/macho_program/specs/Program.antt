@@ -22,7 +22,7 @@ use Rattle.macho_program.specs.declared.program.Found.TheVariants as kind
 use Rattle.macho_program.specs.declared.program.ProgramFault.{ProgramFault}
 use Rattle.macho_program.specs.declared.program.ProgramFault.TheVariants as program
 
--- the bytes that are asked about: those of standard input where the name is `-`, and otherwise those of the file
+-- the bytes that are asked about: the bytes of standard input where the name is `-`, and otherwise of the file
 abbrev pub input_of : {J : Type 0} → Option (List ℕ) → (List ℕ → Option (List ℕ)) → Asked J → Option (List ℕ)
 input_of standard files (shows text) = None
 input_of standard files (asks name question) =
@@ -63,7 +63,7 @@ AnswersWords (Ok task) answer = answer ≡ Ok (asked_by task)
 AnswersWords (Err (program.Words words.Memory)) answer = ⊤
 AnswersWords (Err fault) answer = answer ≡ Err fault
 
--- the fault is that of the request, or memory ran out, or there is a request and its run failed
+-- the fault is the request's, or memory ran out, or there is a request and its run failed
 abbrev pub IsFaultOf : {J : Type 0} → Result (Asked J) ProgramFault → ProgramFault → Type 0
 IsFaultOf request (program.Words words.Memory) = ⊤
 IsFaultOf request (program.Words fault) = request ≡ Err (program.Words fault)
@@ -75,7 +75,7 @@ IsOfStandardInput (shows text) = ⊥
 IsOfStandardInput (asks name question) = name ≡ codes "-"
 
 -- The program ended right: `end` and what became of both streams are right for what is asked.
--- `j` judges a check, `bytes` are those of the file that a request asks about, and `Reads` holds where that file is the input.
+-- `j` judges a check, a request asks about the file of `bytes`, and `Reads` holds where that file is the input.
 pub record EndsRight {J R W : Type 0} (j : judge.Ghosts J) (i : input.Ghosts R) (o : output.Ghosts W) (f : flush.Ghosts W)
     (asked : Result (Asked J) ProgramFault) (bytes : Asked J → Option (List ℕ)) (Reads : Asked J → Type 0)
     (reader reader' : R) (writer writer' : W) (end : Result Found ProgramFault) : Type 0 where
@@ -85,7 +85,7 @@ pub record EndsRight {J R W : Type 0} (j : judge.Ghosts J) (i : input.Ghosts R) 
   pub at_end : IfOk asked (λ request. Reads request → OnOk end (IsAtEnd (i.remaining reader')))
   pub flushed : IfOk end (λ what. what ≢ kind.Where NoImage → IsTrue (f.is_flushed writer'))
   pub no_image : end ≡ Ok (kind.Where NoImage) → writer' ≡ writer
-  -- Each fault is that of the words or of the run, and nothing is written but where a write failed.
+  -- Each fault is about the words or of the run, and nothing is written except where a write failed.
   pub faults : IfErr end (IsFaultOf asked)
   pub read : IfOk asked (λ request. Reads request → end ≢ Err (program.Words words.Memory)
       → (IsErrOf end (program.Run run.Read) ↔ IsTrue (i.has_failed reader')))

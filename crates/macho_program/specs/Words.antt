@@ -28,7 +28,7 @@ abbrev pub where_command : App
 where_command = with_rule (with_rule (with_rule (new_app (codes "where")) (required (codes "FILE")))
     (required (codes "SLICE"))) (required (codes "ADDRESS"))
 
--- a command of which no program's name comes first, and of clap's own there is no help
+-- a command without a program's name first, and without clap's own help
 abbrev pub bare_command : Text → App
 bare_command name = on_top (λ s. record s {
   no_binary_name = true;
@@ -36,7 +36,7 @@ bare_command name = on_top (λ s. record s {
   disable_help_subcommand = true;
 }) (new_app name)
 
--- the command of macho-check: `check FILE` or `where FILE SLICE ADDRESS`, one of which must be there
+-- the command of macho-check: `check FILE` or `where FILE SLICE ADDRESS`, which must have one of them
 abbrev pub check_or_where : App
 check_or_where = with_subcommand (with_subcommand
     (on_top (λ s. record s { subcommand_required = true }) (bare_command (codes "macho-check")))

@@ -1,6 +1,6 @@
 #![tactic(auto)]
 //! The programs over any words, files and streams: what the words ask for, what is found and
-//! written, and the status of the end. The crate of each program passes those of the process.
+//! written, and the status of the end. The crate of each program passes the words, files and streams of the process.
 
 mod files;
 mod number;

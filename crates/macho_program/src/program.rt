@@ -79,8 +79,8 @@ fn show<W: Flush>(text: &str, writer: &mut W) -> Result<Found, ProgramFault>
     }
 }
 
-// Answers the question about the input, writes the text of what is found, and flushes it. Where there
-// is no such image, there is no text. A failed flush is a failed write.
+// Answers the question about the input, writes the text of what is found, and flushes it. Without
+// such an image no text is written. A failed flush is a failed write.
 fn find_in<J: Judge, R: Input, W: Flush>(
     alloc: Global,
     question: &Question<J>,
@@ -151,7 +151,7 @@ fn find_asked<J: Judge + Drop, T: Tool<J>, S: AsStr, O: Open, R: Input, W: Flush
 /// Does what the words ask of a program, and writes the text of what it finds, or a line to `errors`,
 /// whose own faults are ignored. The files that it accepts are those that the tool's judge does.
 ///
-/// `words` are those of the command line, the program's name first, or `None` where the system does
+/// `words` are the words of the command line, the program's name first, or `None` where the system does
 /// not hand them over. `standard` is standard input, and is read only where the words ask for it.
 pub fn run_program<J: Judge + Drop, T: Tool<J>, S: AsStr, O: Open, R: Input, W: Flush, E: Output>(
     alloc: Global,

@@ -13,7 +13,7 @@ use std::process::ExitCode;
 pub const DONE: u8 = 0;
 /// A rule is broken.
 pub const REFUSED: u8 = 1;
-/// The words are not those of the program, or ask for an image that the file does not have.
+/// The words are not the program's, or ask for an image that the file does not have.
 pub const USAGE: u8 = 2;
 /// Reading or writing failed, or the input is too long.
 pub const STREAM_FAULT: u8 = 3;

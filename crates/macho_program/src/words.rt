@@ -42,10 +42,10 @@ pub(crate) const BAD_NUMBER: &str = "bad number";
 /// Why the words ask for nothing. The texts are the lines of `macho-check`, without the line feed.
 #[derive(Clone, Copy, Debug, PartialEq, Eq, Error)]
 pub enum WordFault {
-    /// The words are not those of the program.
+    /// The words are not the program's.
     #[error("usage: macho-check{words}", words = CHECK_OR_WHERE)]
     Usage,
-    /// SLICE or ADDRESS is no number.
+    /// SLICE or ADDRESS is not a number.
     #[error("macho-check: {reason}", reason = BAD_NUMBER)]
     BadNumber,
     /// There was no memory.
@@ -94,7 +94,7 @@ impl From<Request> for Task<LayoutRules> {
 }
 
 /// Reads the words after the name of `macho-check`. No words ask for a check of standard input.
-/// `BadNumber` is answered only where the words are otherwise those of the program.
+/// `BadNumber` is answered only where the words are otherwise the program's.
 pub fn parse_words<'a, S: AsStr>(alloc: Global, words: &'a [S]) -> Result<Request, WordFault>
     ensures { AnswersRequest result (asked_of (map S.text words.now)) }
 {
@@ -121,7 +121,7 @@ fn check_or_where<'a>(alloc: Global) -> Result<Command<'a>, AllocError>
         .subcommand(place)
 }
 
-/// A command of which no program's name comes first. Of clap's own it takes no help.
+/// A command without a program's name first. Of clap's own it takes no help.
 pub fn bare_command<'a>(alloc: Global, name: &'a str) -> Command<'a>
     ensures { app_of result ≡ bare_command name.entry.now }
 {

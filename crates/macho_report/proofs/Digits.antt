@@ -35,7 +35,7 @@ pub last_digit : (k i base n : ℕ) (after : List ℕ) → k ≡ suc i → n / b
 unfolding digits_before
 last_digit k i base n after e h = rw (e, h) refl
 
--- the last digit of a larger number goes after those of the rest
+-- the last digit of a larger number goes after the digits of the rest
 pub next_digit : (k i base n : ℕ) (after : List ℕ) → k ≡ suc i → 0 < n / base
     → digits_before k base n after ≡ digits_before i base (n / base) (digit_glyph false (n % base) ∷ after)
 unfolding digits_before

@@ -34,7 +34,7 @@ no_answer e x is = cc
 pub other_answer : {T E : Type 0} (r : Result T E) (x y : T) → r ≡ Ok x → ¬ (x ≡ y) → ¬ (r ≡ Ok y)
 other_answer r x y first other second = let same : x ≡ y = cc in other same
 
--- a fault of memory is none of writing
+-- a fault of memory is not a fault of writing
 no_write_fault : {T : Type 0} → ¬ IsErrOf {T = T} (Err fault.Memory) fault.Write
 no_write_fault is = cc
 

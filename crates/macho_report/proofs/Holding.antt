@@ -143,7 +143,7 @@ module _ {W : Type 0} {o : output.Ghosts W} where
       ap (λ l. h.bytes.done ++ l) is ∙ sym (append_assoc h.bytes.done held (joined rest)) ∙ ap (λ l. l ++ joined rest) (ap (λ l. h.bytes.done ++ l) (sym (append-nil held)) ∙ h.bytes.rest) in
       puts_same whole (puts_after h.bytes.wrote h.failed put)
 
-  -- the line of which a text was put by parts that may be written
+  -- the line whose text was put by parts that may be written
   pub line_written : {T U E F : Type 0} {a b c : W} {x : T} {r : Result U F} (first rest : List (List ℕ)) (text : List ℕ) {start held line : List ℕ} → start ≡ joined first
       → HoldsText {E = E} o a b (Ok x) held (start ++ text) → line ≡ held ++ joined rest → PutsText o b c r line → PutsText o a c r (joined (first ++ text ∷ rest))
   line_written first rest text {start = start} {held = held} {line = line} is h put wrote =

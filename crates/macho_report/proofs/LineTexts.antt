@@ -7,7 +7,7 @@ use Rattle.macho_report.specs.Stream.{joined}
 use Rattle.macho_report.specs.Line.{library_word}
 use Rattle.macho_report.specs.LineParts.{library_start}
 
--- the line of a library, of which the first three texts are one part
+-- the line of a library, whose first three texts are one part
 pub library_begins : (kind : ℕ) (rest : List (List ℕ)) → joined (library_start kind ∷ rest) ≡ joined (codes "  " ∷ library_word kind ∷ codes " " ∷ rest)
 unfolding joined
 library_begins kind rest = ap (λ l. codes "  " ++ l) (append_assoc (library_word kind) (codes " ") (joined rest))

@@ -15,7 +15,7 @@ pub texts_placed : {A X : Type 0} (f : X → List ℕ) (at : A → X) (places : 
     → joined (map f items) ≡ joined (map (λ p. f (at p)) places)
 texts_placed f at places is = ap joined (ap (map f) is ∙ texts_at f at places)
 
--- items of which those with the mark have no text
+-- items that have no text if they have the mark
 unmarked : {A : Type 0} (mark : A → Bool) (g : A → List ℕ) (xs : List A)
     → joined (map (λ x. if mark x then [] else g x) xs) ≡ joined (map g (filter (λ x. not (mark x)) xs))
 unfolding joined
@@ -58,7 +58,7 @@ same_texts : {A : Type 0} (f g : A → List ℕ) → ((p : A) → f p ≡ g p) �
 same_texts f g same [] = refl
 same_texts f g same (p ∷ places) = rw (same p) (ap (λ texts. g p ∷ texts) (same_texts f g same places))
 
--- items that are read at places, of which those with the mark have no text
+-- items that are read at places, and have no text if they have the mark
 pub texts_unmarked : {A X : Type 0} (f : X → List ℕ) (at : A → X) (mark : A → Bool) (g : A → List ℕ) (places : List A) {items : List X} → items ≡ map at places
     → ((p : A) → f (at p) ≡ (if mark p then [] else g p)) → joined (map f items) ≡ joined (map g (filter (λ p. not (mark p)) places))
 texts_unmarked f at mark g places is same =

@@ -15,19 +15,19 @@ joined_append (text ∷ texts) rest = ap (λ l. text ++ l) (joined_append texts 
 pub from_start : (start after : List ℕ) (texts : List (List ℕ)) → start ≡ [] → after ≡ start ++ joined texts → after ≡ joined texts
 from_start start after texts none is = is ∙ ap (λ l. l ++ joined texts) none
 
--- texts of which the first was put first
+-- texts whose first was put first
 pub put_next : (before middle after text : List ℕ) (texts : List (List ℕ)) → middle ≡ before ++ text → after ≡ middle ++ joined texts
     → after ≡ before ++ joined (text ∷ texts)
 unfolding joined
 put_next before middle after text texts first rest = rest ∙ ap (λ l. l ++ joined texts) first ∙ append_assoc before text (joined texts)
 
--- texts of which the first two were put first
+-- texts whose first two were put first
 pub put_two : (before middle after text second : List ℕ) (texts : List (List ℕ)) → middle ≡ (before ++ text) ++ second → after ≡ middle ++ joined texts
     → after ≡ before ++ joined (text ∷ second ∷ texts)
 put_two before middle after text second texts first rest =
     put_next before (before ++ text) after text (second ∷ texts) refl (put_next (before ++ text) middle after second texts first rest)
 
--- texts of which the first were put first
+-- texts whose first ones were put first
 pub put_many : (before middle after : List ℕ) (first rest : List (List ℕ)) → middle ≡ before ++ joined first → after ≡ middle ++ joined rest
     → after ≡ before ++ joined (first ++ rest)
 put_many before middle after first rest a b = b ∙ ap (λ l. l ++ joined rest) a ∙ append_assoc before (joined first) (joined rest) ∙ ap (λ l. before ++ l) (sym (joined_append first rest))

@@ -10,7 +10,7 @@ use Rattle.macho_report.specs.declared.stream.Input as input
 use Rattle.macho_report.specs.declared.transfer.ReadFault.{ReadFault}
 use Rattle.macho_report.specs.declared.transfer.ReadFault.TheVariants.{Read, TooLong, Memory}
 
--- what holds of the bytes that were read, of which there are at most `limit`, holds of the input
+-- what holds of the bytes that were read, at most `limit`, holds of the input
 pub input_is : (input : Option (List ℕ)) (bytes : List ℕ) (limit : ℕ) (P : List ℕ → Type 0) → IfSome input (λ all. bytes ≡ all) → length bytes ≤ limit
     → P bytes → IfSome input (λ file. (length file ≤ limit) × P file)
 input_is None bytes limit P is within h = tt

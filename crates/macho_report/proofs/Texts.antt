@@ -27,7 +27,7 @@ escaped_run (suc n) (byte ∷ bytes) h plain =
     let fewer : n ≤ length bytes = omega arith in
     rw (escaped_plain byte first) (ap (λ l. byte ∷ l) (escaped_run n bytes fewer (λ k less. plain (suc k) (omega arith))))
 
--- the texts of plain bytes and of those that are left
+-- the texts of plain bytes and of the bytes that are left
 pub escaped_front : (n : ℕ) (bytes : List ℕ) → n ≤ length bytes → ((k : ℕ) → k < n → IsTrue (is_plain (get_or bytes k 0)))
     → joined (map escaped bytes) ≡ take n bytes ++ joined (map escaped (take (length bytes - n) (drop n bytes)))
 escaped_front n bytes h plain = rw (rest_is (length bytes) n bytes refl) (escaped_run n bytes h plain)

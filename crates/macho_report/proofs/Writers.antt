@@ -5,7 +5,7 @@ use Rattle.macho_report.specs.Writer.{PutsText, Writing}
 use Rattle.macho_report.specs.declared.stream.Output as output
 use Rattle.macho_report.proofs.StreamLemmas.{wrote_next_text, wrote_prefix_next_text, wrote_prefix_first_text, writing_begins, writing_next, writing_fails, writing_ends}
 
--- The output's bytes grew by the first part of a text, of which these texts are left. No write has failed since.
+-- The output's bytes grew by the first part of a text, while these texts are left. No write has failed since.
 pub record PutsPart {W : Type 0} (o : output.Ghosts W) (old new : W) (whole : List ℕ) (left : List (List ℕ)) : Type 0 where
   pub bytes : Writing (o.contents old) (o.contents new) whole left
   pub failed : o.has_failed new ≡ o.has_failed old

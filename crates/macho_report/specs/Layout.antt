@@ -19,7 +19,7 @@ use Rattle.macho_report.specs.Stream.{joined}
 use Rattle.macho_report.specs.Arch.{arch_text}
 use Rattle.macho_report.specs.Line.{count_line, slice_line, uuid_line, build_line, segment_line, section_line, library_line, symbols_line, entry_line}
 
--- The lines of an image, which stand in this order; those of one kind in the order of the commands
+-- The lines of an image, which stand in this order; lines of one kind in the order of the commands
 
 -- the line of a command that names a library
 abbrev pub library_text : List ℕ → ℕ → List ℕ
@@ -47,7 +47,7 @@ abbrev pub builds_text : List ℕ → List ℕ → List ℕ
 builds_text image commands =
     joined (map (build_text image) (with_cmd image loader.LC_BUILD_VERSION commands))
 
--- the lines of the segments, each before those of its sections
+-- the lines of the segments, each before the lines of its sections
 abbrev pub segment_text : List ℕ → ℕ → List ℕ
 segment_text image segment =
     joined (segment_line image segment
@@ -56,7 +56,7 @@ segment_text image segment =
 abbrev pub segments_text : List ℕ → List ℕ → List ℕ
 segments_text image commands = joined (map (segment_text image) (segments_of image commands))
 
--- the lines of the libraries, without that of the image itself
+-- the lines of the libraries, without the line of the image itself
 abbrev pub libraries_text : List ℕ → List ℕ → List ℕ
 libraries_text image commands =
     joined (map (library_text image)
@@ -78,7 +78,7 @@ image_text image =
 
 -- The lines of a slice
 
--- mach_header_64.magic: the bytes are those of a 64-bit little-endian image
+-- mach_header_64.magic: the bytes begin a 64-bit little-endian image
 abbrev pub is_image : List ℕ → Bool
 is_image bytes = nat_le 4 (length bytes) && (number Little 4 bytes 0 == loader.MH_MAGIC_64)
 
@@ -86,7 +86,7 @@ is_image bytes = nat_le 4 (length bytes) && (number Little 4 bytes 0 == loader.M
 abbrev pub kind_text : List ℕ → List ℕ
 kind_text image = option_map_or (λ listed. listed.word) (file_type_of (file_type image)) []
 
--- An image has its own architecture in the text. A slice that is not read has that of its entry: in
+-- An image has its own architecture in the text. A slice that is not read has its entry's: in
 -- an accepted file each such slice has one.
 abbrev pub image_slice_text : (List ℕ → List ℕ) → List ℕ → ℕ → FileSlice → List ℕ
 image_slice_text says image index slice =

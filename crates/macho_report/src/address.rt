@@ -21,7 +21,7 @@ pub enum WhereOutcome {
     Told,
     /// The file breaks a rule, and the line of the first was written.
     Refused,
-    /// The slice is not read, or there is none with its index. Nothing was written.
+    /// The slice is not read, or the file has none with its index. Nothing was written.
     NoImage,
 }
 

@@ -15,7 +15,7 @@ pub struct FromRead<'a, R: Read> {
 }
 
 impl<'a, R: Read> FromRead<'a, R> {
-    /// The reader as an input that has not failed.
+    /// The reader as an input before any failure.
     pub fn new(reader: &'a mut R) -> FromRead<'a, R>
         ensures same_reader { result.reader.ghost_name ≡ reader.entry.ghost_name }
         ensures unread { result.reader.now ≡ reader.old }

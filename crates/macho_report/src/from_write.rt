@@ -18,7 +18,7 @@ pub struct FromWrite<'a, W: Write> {
 }
 
 impl<'a, W: Write> FromWrite<'a, W> {
-    /// The writer as an output that has not failed.
+    /// The writer as an output before any failure.
     pub fn new(writer: &'a mut W) -> FromWrite<'a, W>
         ensures same_writer { result.writer.ghost_name ≡ writer.entry.ghost_name }
         ensures unwritten { result.writer.now ≡ writer.old }

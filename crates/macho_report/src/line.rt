@@ -51,7 +51,7 @@ impl Line {
         self.front(text, text.len());
     }
 
-    // Puts the first `count` of these bytes. All of them are copied; if their number is a constant,
+    // Puts the first `count` of the bytes. They are all copied; if their number is a constant,
     // this takes a few instructions.
     #[inline(always)]
     pub(crate) fn front(&mut self, bytes: &[u8], count: usize)
@@ -64,7 +64,7 @@ impl Line {
         self.len += count;
     }
 
-    // Puts a word of any length. If there is no room for it, the bytes that are held are written
+    // Puts a word of any length. Without room for it, the bytes that are held are written
     // first, and a very long word is written too.
     #[inline(always)]
     pub(crate) fn word<W: Output>(&mut self, word: &[u8], writer: &mut W) -> Result<(), WriteFault>

@@ -191,7 +191,7 @@ pub(crate) fn write_symbols<W: Output>(nsyms: u64, writer: &mut W) -> Result<(),
     line.write(writer)
 }
 
-// Writes the line of the entry point: its address, or that there is none.
+// Writes the line of the entry point: its address, or `none`.
 pub(crate) fn write_entry<W: Output>(entry: Option<u64>, writer: &mut W) -> Result<(), WriteFault>
     ensures { PutsText W.Output writer.old writer.new result (entry_line entry) }
 {

@@ -1,6 +1,6 @@
 -- The rows of all symbols and of all indirect entries of an image that breaks no rule.
 use Rattle.std.proofs.Common.{◌≡◌, ◌≢◌, ◌∙◌, ℕ, zero, suc, ◌+◌, ◌-◌, ◌*◌, ◌==◌, ◌≤◌, ◌<◌, List, [], ◌∷◌, length, map, take, drop, slice_index, Bool, true, false, Option, Some, None, Contains, inl, inr, refl, sym, ap, ap₂, subst, subst₂, arith, lit<, length-take, length-drop}
-use Rattle.std.specs.Prelude.{nat_le, slice_get, MatchOption}
+use Rattle.std.specs.Prelude.{nat_le, slice_get}
 use Rattle.std.specs.List.{list_any, before_first}
 use Rattle.std.specs.Option.{option_map, option_map_or, unwrap_or}
 use Rattle.std.proofs.Math.Nat.{mul_comm}
@@ -32,8 +32,7 @@ use Rattle.macho_rules.proofs.Verdicts.{unbroken_image_sound}
 use Rattle.macho_rows.specs.Image.{ShowsUnbroken, image_in, only, symtab_in, dysymtab_in, field_of}
 use Rattle.macho_rows.specs.Rows.{first_string}
 use Rattle.macho_rows.specs.Spans.{part_or_none, span_at, span_of}
-use Rattle.macho_rows.specs.Status.{KESVUOT_OK, KESVUOT_NONE}
-use Rattle.macho_rows.specs.Symbols.{symbol_row, symbol_rows, row_at, all_symbols, HasAllSymbols, name_at, name_span, name_of, IsName, NamesSymbols, AreNames, NamesEach, indirect_row, indirect_rows, all_indirects, HasAllIndirects}
+use Rattle.macho_rows.specs.Symbols.{symbol_row, symbol_rows, row_at, all_symbols, HasAllSymbols, name_at, name_span, name_of, NamesSymbols, AreNames, NamesEach, indirect_row, indirect_rows, all_indirects, HasAllIndirects}
 use Rattle.macho_rows.specs.declared.image.KesvuotImage.{KesvuotImage}
 use Rattle.macho_rows.specs.declared.span.KesvuotSpan.{KesvuotSpan}
 use Rattle.macho_rows.specs.declared.symbols.KesvuotSymbol.{KesvuotSymbol}
@@ -146,7 +145,7 @@ module _ (image : List ℕ) (unbroken : NothingBreaks (BreaksImage image None)) 
       let fits = fits_inside image (stroff image t) (strsize image t) 1 (strings_inside t is) (omega (arith, from, high)) in
       (omega (arith, fits), ends)
 
-  -- so the names of all symbols are those of the strings
+  -- so the names of all symbols are read from the strings
   abbrev strings : ℕ
   strings = field_of (λ (t : Symtab). t.stroff) (symtab_in image)
 
@@ -184,7 +183,7 @@ module _ (file : List ℕ) (row : KesvuotImage) (shows : ShowsUnbroken file row)
   pub unbroken : NothingBreaks (BreaksImage image None)
   unbroken r place broken = let (all, arch, none) = shows in none r place (image_alone image arch r place broken)
 
-  -- the symbols by its numbers are those of the whole image
+  -- the symbols by its numbers are the whole image's
   pub table_same : items_inside image row.symbols 16 row.symbol_count ≡ symbols_of image (commands_of image)
   table_same =
       ap₂ (λ start n. items_inside image start 16 n) shows.0.tables.symbols shows.0.tables.symbol_count
@@ -224,16 +223,13 @@ module _ (file : List ℕ) (row : KesvuotImage) (shows : ShowsUnbroken file row)
       ap (option_map (span_of (row.slice.offset + (row.strings + strx)))) found
       ∙ ap (λ start. Some (span_of (row.slice.offset + (start + strx)) (string_from (named_from strx) image))) shows.0.tables.strings
 
-  pub names : (strx status : ℕ) (name : KesvuotSpan) → IsName image row strx status name → NamesSymbols image row.slice.offset strx status name
-  names strx status name answer p has is some =
-      subst (λ o. MatchOption o ((status ≡ KESVUOT_NONE) × (name ≡ span_at 0 0)) (λ span. (status ≡ KESVUOT_OK) × (name ≡ span))) (name_known strx p has is some) answer
+  pub names : (strx : ℕ) → NamesSymbols image row.slice.offset strx (name_span image row strx)
+  names strx p has is some = name_known strx p has is some
 
   pub names_each : (symbols : List KesvuotSymbol) (n : ℕ) (old new : List KesvuotSpan) → AreNames image row symbols n old new → NamesEach image row.slice.offset symbols n new
-  names_each symbols n old new are k symbol name less at here p has is some = (
-    refl,
-    same_Some name (name_of image row symbol) (sym here ∙ written k symbol less at)
-        ∙ ap (λ o. unwrap_or o (span_at 0 0)) (name_known symbol.strx p has is some),
-  )
+  names_each symbols n old new are k symbol name less at here p has is some =
+      ap Some (same_Some name (name_of image row symbol) (sym here ∙ written k symbol less at)
+      ∙ ap (λ o. unwrap_or o (span_at 0 0)) (name_known symbol.strx p has is some))
     where
       written : (k : ℕ) (symbol : KesvuotSymbol) → k < n → slice_get symbols k ≡ Some symbol → slice_get new k ≡ Some (name_of image row symbol)
       written k symbol less at =

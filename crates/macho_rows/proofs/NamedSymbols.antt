@@ -9,7 +9,6 @@ use Rattle.macho_fields.specs.Field.{string_from}
 use Rattle.macho_fields.specs.Image.{commands_of}
 use Rattle.macho_fields.specs.Layers.{NothingBreaks}
 use Rattle.macho_fields.specs.Rules.{BreaksImage}
-use Rattle.macho_fields.specs.Segment.{section_count}
 use Rattle.macho_image.specs.Symbol.{symbol_at, symbols_of, items_inside}
 use Rattle.macho_image.specs.declared.symbol.Symbol.{Symbol}
 use Rattle.macho_image.specs.declared.symtab.Symtab.{Symtab}
@@ -18,7 +17,6 @@ use Rattle.macho_rows.specs.Spans.{part_or_none}
 use Rattle.macho_rows.specs.SymbolNames.{HasName, HasNameIn, HasNameAmong, NoneBelow, FindsFirst, IsNamed, FindsNamed}
 use Rattle.macho_rows.specs.Rows.{first_string}
 use Rattle.macho_rows.specs.declared.image.KesvuotImage.{KesvuotImage}
-use Rattle.macho_rows.specs.declared.symbols.KesvuotSymbol.{KesvuotSymbol}
 use Rattle.macho_rows.proofs.AllSymbols.{name_found, table_same, unbroken}
 
 abbrev is_zero : ℕ → Bool
@@ -129,15 +127,13 @@ more_below P all k s none at fails j other less found holds = elim (cases_lt j k
 pub none_remain : (P : Symbol → Type 0) (all : List Symbol) (k : ℕ) → NoneBelow P all k → drop k all ≡ [] → (j : ℕ) (other : Symbol) → slice_get all j ≡ Some other → ¬ P other
 none_remain P all k none over j other found = none j other (omega (arith, slice_get_within all j other found, ap length over, length-drop k all)) found
 
--- The answer
+-- What is found
 
 -- by tests that agree on the symbols
-pub answers : (P Q : Symbol → Type 0) (symbols : List Symbol) (sections status number : ℕ) (symbol : KesvuotSymbol) → ((k : ℕ) (s : Symbol) → slice_get symbols k ≡ Some s → P s ↔ Q s)
-    → FindsFirst P symbols sections status symbol number → FindsFirst Q symbols sections status symbol number
-answers P Q symbols sections status number symbol same answer = elim answer [
-  | inl (ok, s, first, is) ↦ inl (ok, s, (first.0, (same number s first.0).0 first.1, λ k other less found holds. first.2 k other less found ((same k other found).1 holds)), is)
-  | inr (none, has_none, is, zero_number) ↦ inr (none, (λ k other found holds. has_none k other found ((same k other found).1 holds)), is, zero_number)
-]
+pub same_found : (P Q : Symbol → Type 0) (symbols : List Symbol) (found : Option (ℕ × Symbol)) → ((k : ℕ) (s : Symbol) → slice_get symbols k ≡ Some s → P s ↔ Q s) → FindsFirst P symbols found → FindsFirst Q symbols found
+same_found P Q symbols None same none = λ k other at holds. none k other at ((same k other at).1 holds)
+same_found P Q symbols (Some first) same is =
+    (is.0, (same first.0 first.1 is.0).0 is.1, λ k other less at holds. is.2 k other less at ((same k other at).1 holds))
 
 -- a name among the strings of the struct
 pub among_shown : (image : List ℕ) (row : KesvuotImage) (name : List ℕ) (s : Symbol) → HasNameAmong (part_or_none row.strings row.strings_size image) name s ↔ HasName image row name s
@@ -149,7 +145,7 @@ among_shown image row name s = (
   ],
 )
 
--- the same among those of an image that breaks no rule
+-- the same among the symbols of an image that breaks no rule
 module _ (image : List ℕ) (unbroken : NothingBreaks (BreaksImage image None)) (name : List ℕ) where
   abbrev strings_of : List ℕ
   strings_of =
@@ -176,26 +172,24 @@ module _ (image : List ℕ) (unbroken : NothingBreaks (BreaksImage image None)) 
     λ named. (named.0, named.1, string_of k s at named.1 ∙ ap Some named.2),
   )
 
--- The call
+-- The first one
 
--- the answer by the strings and the symbols of the struct
-pub shown_named : (image : List ℕ) (row : KesvuotImage) (name : List ℕ) (status number : ℕ) (symbol : KesvuotSymbol) (strings : List ℕ) (symbols : List Symbol)
+-- by the strings and the symbols of the struct
+pub shown_named : (image : List ℕ) (row : KesvuotImage) (name : List ℕ) (found : Option (ℕ × Symbol)) (strings : List ℕ) (symbols : List Symbol)
     → strings ≡ part_or_none row.strings row.strings_size image → symbols ≡ map (symbol_at image) (items_inside image row.symbols 16 row.symbol_count)
-    → FindsFirst (HasNameAmong strings name) symbols row.section_count status symbol number → IsNamed image row name status symbol number
-shown_named image row name status number symbol strings symbols are same answer =
+    → FindsFirst (HasNameAmong strings name) symbols found → IsNamed image row name found
+shown_named image row name found strings symbols are same answer =
     let shown : List Symbol = map (symbol_at image) (items_inside image row.symbols 16 row.symbol_count) in
-    answers (HasNameAmong (part_or_none row.strings row.strings_size image) name) (HasName image row name) shown row.section_count status number symbol (λ k s at. among_shown image row name s)
-    (subst₂ (λ text all. FindsFirst (HasNameAmong text name) all row.section_count status symbol number) are same answer)
+    same_found (HasNameAmong (part_or_none row.strings row.strings_size image) name) (HasName image row name) shown found (λ k s at. among_shown image row name s)
+    (subst₂ (λ text all. FindsFirst (HasNameAmong text name) all found) are same answer)
 
--- that by the image alone, where it breaks no rule
-pub seen_named : (file : List ℕ) (row : KesvuotImage) (shows : ShowsUnbroken file row) (name : List ℕ) (status number : ℕ) (symbol : KesvuotSymbol)
-    → IsNamed (image_in file row) row name status symbol number → FindsNamed (image_in file row) name status symbol number
-seen_named file row shows name status number symbol answer =
+-- by the image alone, where it breaks no rule
+pub seen_named : (file : List ℕ) (row : KesvuotImage) (shows : ShowsUnbroken file row) (name : List ℕ) (found : Option (ℕ × Symbol)) → IsNamed (image_in file row) row name found → FindsNamed (image_in file row) name found
+seen_named file row shows name found answer =
     let image = image_in file row in
     let seen : List Symbol = map (symbol_at image) (symbols_of image (commands_of image)) in
-    let sections = section_count image (commands_of image) in
-    let among : FindsFirst (HasNameAmong (part_or_none row.strings row.strings_size image) name) seen sections status symbol number =
-    answers (HasName image row name) (HasNameAmong (part_or_none row.strings row.strings_size image) name) seen sections status number symbol (λ k s at. ((among_shown image row name s).1, (among_shown image row name s).0))
-    (subst₂ (λ places n. FindsFirst (HasName image row name) (map (symbol_at image) places) n status symbol number) (table_same file row shows) shows.0.counts.sections answer) in
-    answers (HasNameAmong (strings_of image (unbroken file row shows) name) name) (HasNameIn image name) seen sections status number symbol (among_seen image (unbroken file row shows) name)
-    (subst₂ (λ start size. FindsFirst (HasNameAmong (part_or_none start size image) name) seen sections status symbol number) shows.0.tables.strings shows.0.tables.strings_size among)
+    let among : FindsFirst (HasNameAmong (part_or_none row.strings row.strings_size image) name) seen found =
+    same_found (HasName image row name) (HasNameAmong (part_or_none row.strings row.strings_size image) name) seen found (λ k s at. ((among_shown image row name s).1, (among_shown image row name s).0))
+    (subst (λ places. FindsFirst (HasName image row name) (map (symbol_at image) places) found) (table_same file row shows) answer) in
+    same_found (HasNameAmong (strings_of image (unbroken file row shows) name) name) (HasNameIn image name) seen found (among_seen image (unbroken file row shows) name)
+    (subst₂ (λ start size. FindsFirst (HasNameAmong (part_or_none start size image) name) seen found) shows.0.tables.strings shows.0.tables.strings_size among)

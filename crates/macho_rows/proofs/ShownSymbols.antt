@@ -1,4 +1,4 @@
--- The symbols by the struct of an image that breaks no rule are those of the image, and so are their
+-- The symbols by the struct of an image that breaks no rule are the image's, and so are their
 -- names.
 use Rattle.std.proofs.Common.{◌≡◌, ◌∙◌, ℕ, ◌^◌, ◌≤◌, List, length, map, take, sym, ap, ap₂, subst, arith, length-take}
 use Rattle.macho_fields.specs.Image.{commands_of}

@@ -15,11 +15,12 @@ use Rattle.macho_fields.specs.Segment.{IsAtAddress, Supplies, source, segments_o
 use Rattle.macho_rules.proofs.Verdicts.{unbroken_image_sound}
 use Rattle.macho_image.specs.Segment.{SegmentView, segment_at}
 use Rattle.macho_rules.proofs.Searches.{any_of}
-use Rattle.macho_rows.specs.Address.{supplies, supplier, bytes_from, IsAnswer, IsSourceAt}
+use Rattle.macho_rows.specs.Address.{supplies, supplier, bytes_from, HasSource, IsSourceAt}
 use Rattle.macho_rows.specs.Segments.{segment_bytes}
 use Rattle.macho_rows.specs.Spans.{part_or_none, span_at, span_of}
+use Rattle.macho_rows.specs.declared.address.Source.{Source}
+use Rattle.macho_rows.specs.declared.address.Source.TheVariants as seen
 use Rattle.macho_rows.specs.declared.span.KesvuotSpan.{KesvuotSpan}
-use Rattle.macho_rows.specs.Status.{KESVUOT_OK, KESVUOT_NONE, KESVUOT_ZERO}
 
 -- the first that passes, or none
 module _ (image : List ℕ) (address : ℕ) where
@@ -104,7 +105,7 @@ starts image address past s is some =
     here : (p : ℕ) → drop past (segment_bytes image p) ≢ [] → fileoff image p + past < length image
     here p rest = at (fileoff image p) (filesize image p) rest
 
--- where these bytes lie, of which there are some
+-- where these bytes lie, at least one
 found_span : (place from : ℕ) (bytes image : List ℕ) (span : KesvuotSpan) → span ≡ span_of (place + from) bytes → bytes ≢ [] → bytes ≡ part from (length bytes) image
     → (span.offset ≡ place + from) × (0 < span.size) × (from + span.size ≤ length image)
 found_span place from bytes image span is some rest = elim (cases_Bool (length bytes == 0)) [
@@ -127,17 +128,17 @@ last_inside image p sound has some =
     let covers : Covers (fileoff image p) (filesize image p) place = (omega arith, omega arith) in
     let inside = sound.reads place (in_segment (any_of (λ s. Covers (fileoff image s) (filesize image s) place) (segments_of image (commands_of image)) p has covers)) in omega arith
 
-pub told : (image : List ℕ) (place address status : ℕ) (span : KesvuotSpan) → NothingBreaks (BreaksImage image None) → IsAnswer image place address status span → IsSourceAt image place address status span
-told image place address status span unbroken answer = by (supplier image address) refl answer
+pub told : (image : List ℕ) (place address : ℕ) (found : Option Source) → NothingBreaks (BreaksImage image None) → HasSource image place address found → IsSourceAt image place address found
+told image place address found unbroken answer = by (supplier image address) refl answer
   where
     sound : IsSoundImage image (commands_of image)
     sound = unbroken_image_sound image unbroken
 
     by : (o : Option SegmentView) → supplier image address ≡ o
-        → MatchOption o ((status ≡ KESVUOT_NONE) × (span ≡ span_at 0 0)) (λ s. (span ≡ span_of (place + (fileoff s.image s.place + (address - vmaddr s.image s.place))) (bytes_from address s)) × (((status ≡ KESVUOT_OK) × (bytes_from address s ≢ [])) ⊎ ((status ≡ KESVUOT_ZERO) × (bytes_from address s ≡ []))))
-        → IsSourceAt image place address status span
-    by None is (none, empty) = inr (inr (none, source_none image address is))
-    by (Some s) is (are, answers) =
+        → MatchOption o (found ≡ None) (λ s. ((found ≡ Some (seen.Bytes (span_of (place + (fileoff s.image s.place + (address - vmaddr s.image s.place))) (bytes_from address s)))) × (bytes_from address s ≢ [])) ⊎ ((found ≡ Some seen.Zero) × (bytes_from address s ≡ [])))
+        → IsSourceAt image place address found
+    by None is none = subst (IsSourceAt image place address) (sym none) (source_none image address is)
+    by (Some s) is answers =
         let (p, has, same, passed) = found_in image address (segments_of image (commands_of image)) s is in
         let sup = supplied image address p passed in
         let at = source_found image address sound p has sup in
@@ -145,14 +146,15 @@ told image place address status span unbroken answer = by (supplier image addres
         let here : bytes ≡ drop (address - vmaddr image p) (part_or_none (fileoff image p) (filesize image p) image) = ap (bytes_from address) (sym same) in
         let begins : fileoff s.image s.place + (address - vmaddr s.image s.place) ≡ fileoff image p + (address - vmaddr image p) = ap (λ (t : SegmentView). fileoff t.image t.place + (address - vmaddr t.image t.place)) (sym same) in
         elim answers [
-          | inl (ok, some) ↦
+          | inl (is_found, some) ↦
               let (less, rest) = some_left image (fileoff image p) (filesize image p) (address - vmaddr image p) bytes here some in
-              let (offset, more, inside) = found_span place (fileoff image p + (address - vmaddr image p)) bytes image span (are ∙ ap (λ from. span_of (place + from) bytes) begins) some rest in
-              inl (ok, fileoff image p + (address - vmaddr image p), subst (λ g. IsAtAddress image address (Some g)) (rw (lt-ltb _ _ less) refl) at, offset, more, inside)
-          | inr (zero_there, empty) ↦
+              let span : KesvuotSpan = span_of (place + (fileoff s.image s.place + (address - vmaddr s.image s.place))) bytes in
+              let (offset, more, inside) = found_span place (fileoff image p + (address - vmaddr image p)) bytes image span (ap (λ from. span_of (place + from) bytes) begins) some rest in
+              subst (IsSourceAt image place address) (sym is_found) (fileoff image p + (address - vmaddr image p), subst (λ g. IsAtAddress image address (Some g)) (rw (lt-ltb _ _ less) refl) at, offset, more, inside)
+          | inr (is_zero, empty) ↦
               let past : filesize image p ≤ address - vmaddr image p = elim (cases_lt 0 (filesize image p)) [
                 | inl some ↦ none_left image (fileoff image p) (filesize image p) (address - vmaddr image p) bytes here empty (last_inside image p sound has some)
                 | inr most ↦ omega arith
               ] in
-              inr (inl (zero_there, subst (λ g. IsAtAddress image address (Some g)) (rw (le-ltb _ _ past) refl) at))
+              subst (IsSourceAt image place address) (sym is_zero) (subst (λ g. IsAtAddress image address (Some g)) (rw (le-ltb _ _ past) refl) at)
         ]

@@ -12,7 +12,7 @@ use Rattle.macho_rows.specs.SymbolIndex.{is_address, has_address, addresses, IsI
 abbrev pub has : Symbol → Bool
 has symbol = is_address symbol.kind
 
--- the indices of those of these symbols that have an address, of which the first has this index
+-- the indices of the symbols that have an address, where the first symbol has this index
 abbrev pub numbers_from : ℕ → List Symbol → List ℕ
 numbers_from number [] = []
 numbers_from number (s ∷ rest) =

@@ -17,7 +17,7 @@ build_version_row image command = record {
   cmd = command_cmd image command;
 }
 
--- that of a version_min_command of a platform: version at 8, sdk 12
+-- the row of a version_min_command of a platform: version at 8, sdk 12
 abbrev pub version_min_row : List ℕ → ℕ → ℕ → KesvuotBuild
 version_min_row image command platform = record {
   platform = platform;

@@ -43,7 +43,7 @@ abbrev pub command_rows_left : ℕ → List ℕ → KesvuotCursor → List Kesvu
 command_rows_left place image cursor =
     map (command_row place image) (wanted_left wanted.All image cursor)
 
--- those of all commands, in their order
+-- the rows of all commands, in their order
 abbrev pub all_commands : ℕ → List ℕ → List KesvuotCommand
 all_commands place image = map (command_row place image) (commands_of image)
 

@@ -23,7 +23,8 @@ use Rattle.macho_rows.specs.Rows.{IsBrokenImage, HasUnbrokenHeaders}
 use Rattle.macho_rows.specs.Segments.{segments_seen}
 use Rattle.macho_rows.specs.Spans.{part_or_none, span_at}
 use Rattle.macho_rows.specs.declared.image.KesvuotImage.{KesvuotImage}
-use Rattle.macho_rows.specs.Status.{KESVUOT_OK, KESVUOT_REFUSED, KESVUOT_NONE, KESVUOT_UNREAD}
+use Rattle.macho_rows.specs.declared.image.SliceImage.{SliceImage}
+use Rattle.macho_rows.specs.declared.image.SliceImage.TheVariants.{Read, Unread}
 
 -- Parts that an image has once, or not at all
 
@@ -163,11 +164,11 @@ ShowsNothing row = ShowsOutside 0 0 0 0 row
 
 -- The answer on a slice
 
--- the file breaks a rule without which it has no slices to look for, of which the last is fat-truncated
+-- the file breaks a rule without which it has no slices to look for, up to fat-truncated
 abbrev pub HasNoTable : List ℕ → Type 0
 HasNoTable file = BreaksUpTo (BreaksFile file) rule.FatTruncated
 
--- it breaks none of these rules
+-- it breaks no such rule
 abbrev pub HasTable : List ℕ → Type 0
 HasTable file = KeptBelow (BreaksFile file) (rank rule.FatTruncated + 1)
 
@@ -184,35 +185,23 @@ IsUnread file slice row =
     (slice.start + slice.size ≤ length file) × IsUnreadImage (slice_bytes file slice)
     × ShowsOutside slice.start slice.size arch.0 arch.1 row
 
--- the slice ends past the file, is no image at all, or its headers break a rule
+-- the slice ends past the file, is not an image at all, or its headers break a rule
 abbrev pub IsBad : List ℕ → FileSlice → Type 0
 IsBad file slice =
     (length file < slice.start + slice.size) ⊎ IsForeign (slice_bytes file slice)
     ⊎ (IsImage (slice_bytes file slice) × IsBrokenImage (slice_bytes file slice) slice.arch)
 
--- no accepted file has these bytes: those of its table, or those of the slice with this index
+-- no accepted file has these bytes: neither its table nor the slice with this index
 abbrev pub IsRefusedAt : List ℕ → ℕ → Type 0
 IsRefusedAt file index =
     (¬ IsUnbroken file)
     × (HasNoTable file
     ⊎ ((slice : FileSlice) × (slice_get (slices_of file) index ≡ Some slice) × IsBad file slice))
 
--- the answer on the slice with this index
-abbrev pub IsAnswer : List ℕ → ℕ → ℕ → KesvuotImage → Type 0
-IsAnswer file index status row =
-    ((status ≡ KESVUOT_OK) × HasTable file
-    × (slice : FileSlice) × (slice_get (slices_of file) index ≡ Some slice) × IsRead file slice row)
-    ⊎ ((status ≡ KESVUOT_UNREAD) × HasTable file
-    × (slice : FileSlice) × (slice_get (slices_of file) index ≡ Some slice)
-    × IsUnread file slice row)
-    ⊎ ((status ≡ KESVUOT_NONE) × HasTable file
-    × (slice_get (slices_of file) index ≡ None) × ShowsNothing row)
-    ⊎ ((status ≡ KESVUOT_REFUSED) × IsRefusedAt file index × ShowsNothing row)
-
 -- What only proofs need.
 
--- the answer on a slice
-abbrev pub IsSliceAnswer : List ℕ → FileSlice → ℕ → KesvuotImage → Type 0
-IsSliceAnswer file slice status row =
-    ((status ≡ KESVUOT_OK) × IsRead file slice row) ⊎ ((status ≡ KESVUOT_UNREAD) × IsUnread file slice row)
-    ⊎ ((status ≡ KESVUOT_REFUSED) × IsBad file slice × ShowsNothing row)
+-- the image of a slice
+abbrev pub IsSliceImage : List ℕ → FileSlice → Option SliceImage → Type 0
+IsSliceImage file slice (Some (Read row)) = IsRead file slice row
+IsSliceImage file slice (Some (Unread row)) = IsUnread file slice row
+IsSliceImage file slice None = IsBad file slice

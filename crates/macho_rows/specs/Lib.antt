@@ -11,7 +11,6 @@ pub mod Rows
 pub mod Sections
 pub mod Segments
 pub mod Spans
-pub mod Status
 pub mod SymbolIndex
 pub mod SymbolNames
 pub mod Symbols

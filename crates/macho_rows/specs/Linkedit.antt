@@ -1,5 +1,5 @@
 -- The data that load commands name. (mach-o/loader.h: linkedit_data_command)
-use Rattle.std.specs.Prelude.{◌≡◌, ◌≢◌, ℕ, ◌+◌, ◌<◌, ◌⊎◌, List, length, Some, MatchOption, nat_le, if◌then◌else◌}
+use Rattle.std.specs.Prelude.{◌≡◌, ◌≢◌, ℕ, ◌+◌, ◌<◌, ◌⊎◌, List, length, Option, Some, MatchOption, nat_le, if◌then◌else◌}
 use Rattle.std.specs.Option.{option_map_or}
 use Rattle.macho_fields.specs.Field.{part}
 use Rattle.macho_fields.specs.Image.{word, commands_of}
@@ -7,10 +7,9 @@ use Rattle.macho_fields.specs.LoadCommands.{structure_of}
 use Rattle.macho_fields.specs.declared.load_command.Structure.TheVariants.{LinkeditDataCommand}
 use Rattle.macho_image.specs.Command.{first_with_cmd}
 use Rattle.macho_rows.specs.Loads.{first_wanted}
-use Rattle.macho_rows.specs.Spans.{span_at, span_of}
+use Rattle.macho_rows.specs.Spans.{span_of}
 use Rattle.macho_rows.specs.declared.span.KesvuotSpan.{KesvuotSpan}
 use Rattle.macho_rows.specs.declared.load.Wanted.TheVariants as wanted
-use Rattle.macho_rows.specs.Status.{KESVUOT_OK, KESVUOT_NONE}
 
 -- linkedit_data_command: dataoff at 8, datasize at 12
 abbrev pub dataoff : List ℕ → ℕ → ℕ
@@ -33,19 +32,19 @@ PassesImage image command =
     (0 < datasize image command)
     × (length image < dataoff image command + datasize image command)
 
--- The answer on a cmd: the data of the first command with it. There is none if the image has no
--- such command, if it is of another structure, or if the data does not lie inside the image.
-abbrev pub IsAnswer : List ℕ → ℕ → ℕ → ℕ → KesvuotSpan → Type 0
-IsAnswer image place cmd status span =
-    ((status ≡ KESVUOT_OK) × (structure_of cmd ≡ Some LinkeditDataCommand)
+-- The data of the first command with a cmd. It is missing if the image has no such command, if it is of
+-- another structure, or if the data does not lie inside the image.
+abbrev pub HasData : List ℕ → ℕ → ℕ → Option KesvuotSpan → Type 0
+HasData image place cmd found =
+    MatchOption found
+    ((structure_of cmd ≢ Some LinkeditDataCommand)
+    ⊎ MatchOption (first_with_cmd image cmd (commands_of image)) (Unit {0}) (PassesImage image))
+    (λ span. (structure_of cmd ≡ Some LinkeditDataCommand)
     × (command : ℕ) × (first_with_cmd image cmd (commands_of image) ≡ Some command)
     × IsData image place command span)
-    ⊎ ((status ≡ KESVUOT_NONE) × (span ≡ span_at 0 0)
-    × ((structure_of cmd ≢ Some LinkeditDataCommand)
-    ⊎ MatchOption (first_with_cmd image cmd (commands_of image)) (Unit {0}) (PassesImage image)))
 
 -- The data of the first command with this cmd that holds its structure: where it begins in the image, and
--- its size. There is none without such a command, or where it ends past the image.
+-- its size. It is empty without such a command, or where it ends past the image.
 abbrev pub named_data : ℕ → List ℕ → ℕ × ℕ
 named_data cmd image =
     option_map_or (λ command.

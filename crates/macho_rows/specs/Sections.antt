@@ -11,7 +11,7 @@ use Rattle.macho_rows.specs.declared.load.Wanted.TheVariants as wanted
 use Rattle.macho_rows.specs.declared.sections.KesvuotSection.{KesvuotSection}
 use Rattle.macho_rows.specs.declared.span.KesvuotSpan.{KesvuotSpan}
 
--- whether the type in the low byte of these flags has no bytes in the file
+-- whether the type in the low byte of the flags has no bytes in the file
 abbrev pub fills_zeros : ℕ → Bool
 fills_zeros flags =
     (flags % 256 == loader.S_ZEROFILL) || (flags % 256 == loader.S_GB_ZEROFILL)
@@ -43,7 +43,7 @@ section_row place image segment section = record {
   zero_fill = if fills_zeros (section_flags image section) then 1 else 0;
 }
 
--- those of a segment
+-- the rows of a segment
 abbrev pub section_rows : ℕ → List ℕ → ℕ → List KesvuotSection
 section_rows place image segment =
     map (section_row place image segment) (sections_in image segment)
@@ -68,7 +68,7 @@ sections_left place image cursor =
     rows_reached place image cursor
     ++ flat_map (section_rows place image) (wanted_left wanted.Segments image cursor)
 
--- those of all segments, in the order of the commands
+-- the rows of all segments, in the order of the commands
 abbrev pub all_sections : ℕ → List ℕ → List KesvuotSection
 all_sections place image =
     flat_map (section_rows place image) (segments_of image (commands_of image))

@@ -14,7 +14,7 @@ abbrev pub segment_bytes : List ℕ → ℕ → List ℕ
 segment_bytes image segment =
     part_or_none (fileoff image segment) (filesize image segment) image
 
--- the last of the addresses from the start on: below 2^64, and 0 where there are none
+-- the last of the addresses from the start on: below 2^64, and 0 without addresses
 abbrev pub last_address : ℕ → ℕ → ℕ
 last_address start size = if size == 0 then 0 else min (start + (size - 1)) (2 ^ 64 - 1)
 
@@ -40,7 +40,7 @@ segment_row place image sections segment = record {
   reserved = 0;
 }
 
--- those of these segments, of which the first has so many sections before its own
+-- the rows of some segments, where the first has so many sections before its own
 abbrev pub segment_rows : ℕ → List ℕ → ℕ → List ℕ → List KesvuotSegment
 segment_rows place image sections [] = []
 segment_rows place image sections (segment ∷ rest) =
@@ -52,7 +52,7 @@ abbrev pub segments_left : ℕ → List ℕ → KesvuotCursor → List KesvuotSe
 segments_left place image cursor =
     segment_rows place image cursor.items (wanted_left wanted.Segments image cursor)
 
--- those of all segments, in the order of the commands
+-- the rows of all segments, in the order of the commands
 abbrev pub all_segments : ℕ → List ℕ → List KesvuotSegment
 all_segments place image = segment_rows place image 0 (segments_of image (commands_of image))
 

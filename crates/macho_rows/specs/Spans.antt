@@ -6,7 +6,7 @@ use Rattle.macho_rows.specs.declared.span.KesvuotSpan.{KesvuotSpan}
 abbrev pub span_at : ℕ → ℕ → KesvuotSpan
 span_at offset size = record { offset = offset; size = size }
 
--- where these bytes lie, of which the first is at the offset in the file; no bytes lie at 0
+-- where these bytes lie, from the offset in the file on; no bytes lie at 0
 abbrev pub span_of : ℕ → List ℕ → KesvuotSpan
 span_of offset bytes =
     if length bytes == 0 then span_at 0 0 else span_at offset (length bytes)

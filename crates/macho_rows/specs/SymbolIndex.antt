@@ -1,15 +1,12 @@
--- Symbols by address: an index of those that have one, and the nearest one. (mach-o/nlist.h: nlist_64)
-use Rattle.std.specs.Prelude.{◌≡◌, ℕ, ◌+◌, ◌-◌, ◌*◌, ◌^◌, ◌==◌, ◌≤◌, ◌<◌, ◌⊎◌, ◌&&◌, List, length, map, take, drop, filter, slice_get, slice_index, bit_and, nat_le, Bool, true, false, Some, IsPermutation}
+-- Symbols by address: an index of the symbols with an address, and the nearest one. (mach-o/nlist.h: nlist_64)
+use Rattle.std.specs.Prelude.{◌≡◌, ℕ, ◌+◌, ◌-◌, ◌*◌, ◌^◌, ◌==◌, ◌≤◌, ◌<◌, ◌⊎◌, ◌&&◌, List, length, map, take, drop, filter, slice_get, slice_index, bit_and, nat_le, Bool, true, false, Option, Some, MatchOption, IsPermutation}
 use Rattle.std.specs.List.{range_with_len}
 use Rattle.std.specs.List.Sorted.{IsNonDecreasingBy}
 use Rattle.std.specs.Option.{option_map_or}
 use Rattle.macho_fields.specs.Image.{commands_of}
-use Rattle.macho_fields.specs.Segment.{section_count}
 use Rattle.macho_fields.specs.declared.header.nlist.TheConstants as nlist
 use Rattle.macho_image.specs.Symbol.{symbols_of, symbol_at, items_inside}
 use Rattle.macho_image.specs.declared.symbol.Symbol.{Symbol}
-use Rattle.macho_rows.specs.Status.{KESVUOT_OK, KESVUOT_NONE}
-use Rattle.macho_rows.specs.Symbols.{symbol_row}
 use Rattle.macho_rows.specs.declared.image.KesvuotImage.{KesvuotImage}
 use Rattle.macho_rows.specs.declared.symbols.KesvuotSymbol.{KesvuotSymbol}
 
@@ -47,7 +44,7 @@ value_of symbols number =
 abbrev pub sort_key : List Symbol → ℕ → ℕ
 sort_key symbols number = value_of symbols number * 2 ^ 32 + number
 
--- The index of these symbols: it has the indices of those that have an address, each once, and ascends.
+-- The index of the symbols: it has the indices of the symbols with an address, each once, and ascends.
 abbrev pub IsIndex : List Symbol → List ℕ → Type 0
 IsIndex symbols index =
     IsPermutation (addresses symbols) index × IsNonDecreasingBy (sort_key symbols) index
@@ -91,14 +88,12 @@ no_symbol = record {
   reserved = 0;
 }
 
--- The answer on an address, by any numbers in the index: the symbol at a position at which IsLastSymbol holds,
--- of an image with so many sections, or none if the first entry begins past the address.
-abbrev pub IsFound : List Symbol → ℕ → List ℕ → ℕ → ℕ → KesvuotSymbol → ℕ → Type 0
-IsFound symbols sections index address status symbol position =
-    ((status ≡ KESVUOT_OK)
-    × (s : Symbol) × IsLastSymbol symbols index address position s × (symbol ≡ symbol_row sections s))
-    ⊎ ((status ≡ KESVUOT_NONE) × BeginsPast symbols index address 0
-    × (symbol ≡ no_symbol) × (position ≡ 0))
+-- What is found by any numbers in the index: a position at which IsLastSymbol holds, and the symbol, or nothing
+-- if the first entry begins past the address.
+abbrev pub FindsLast : List Symbol → List ℕ → ℕ → Option (ℕ × Symbol) → Type 0
+FindsLast symbols index address found =
+    MatchOption found (BeginsPast symbols index address 0)
+    (λ last. IsLastSymbol symbols index address last.0 last.1)
 
 -- The symbol with this index is the nearest one: it has an address, at or before this one, and no other at
 -- or before it has a greater address, or the same and a greater index.
@@ -116,11 +111,9 @@ HasNoneBefore symbols address =
     (k : ℕ) (other : Symbol) → slice_get symbols k ≡ Some other → is_address other.kind ≡ true
     → address < other.value
 
--- Where the index is that of the symbols of the image, the answer is the nearest one of all.
-abbrev pub FindsNearest : List ℕ → List ℕ → ℕ → ℕ → KesvuotSymbol → ℕ → Type 0
-FindsNearest image index address status symbol position =
+-- Where the index is made of the symbols of the image, the nearest one of all is found.
+abbrev pub FindsNearest : List ℕ → List ℕ → ℕ → Option (ℕ × Symbol) → Type 0
+FindsNearest image index address found =
     IsIndex (symbols_seen image) index
-    → ((status ≡ KESVUOT_OK)
-    × (s : Symbol) × IsNearest (symbols_seen image) address (slice_index index position) s
-    × (symbol ≡ symbol_row (section_count image (commands_of image)) s))
-    ⊎ ((status ≡ KESVUOT_NONE) × HasNoneBefore (symbols_seen image) address)
+    → MatchOption found (HasNoneBefore (symbols_seen image) address)
+    (λ last. IsNearest (symbols_seen image) address (slice_index index last.0) last.1)

@@ -1,21 +1,17 @@
 -- Symbols by name. (mach-o/nlist.h: nlist_64)
-use Rattle.std.specs.Prelude.{◌≡◌, ◌≢◌, ℕ, ◌+◌, ◌<◌, ◌⊎◌, List, map, drop, slice_get, bit_and, Some}
+use Rattle.std.specs.Prelude.{◌≡◌, ◌≢◌, ℕ, ◌+◌, ◌<◌, List, map, drop, slice_get, bit_and, Option, Some, MatchOption}
 use Rattle.macho_fields.specs.Field.{string_from}
 use Rattle.macho_fields.specs.Image.{commands_of}
-use Rattle.macho_fields.specs.Segment.{section_count}
 use Rattle.macho_fields.specs.declared.header.nlist.TheConstants as nlist
 use Rattle.macho_image.specs.Symbol.{symbols_of, symbol_at, items_inside}
 use Rattle.macho_image.specs.declared.symbol.Symbol.{Symbol}
 use Rattle.macho_image.specs.declared.symtab.Symtab.{Symtab}
 use Rattle.macho_rows.specs.Image.{symtab_in, field_of}
-use Rattle.macho_rows.specs.Status.{KESVUOT_OK, KESVUOT_NONE}
-use Rattle.macho_rows.specs.SymbolIndex.{no_symbol}
 use Rattle.macho_rows.specs.Rows.{first_string}
-use Rattle.macho_rows.specs.Symbols.{name_at, symbol_row}
+use Rattle.macho_rows.specs.Symbols.{name_at}
 use Rattle.macho_rows.specs.declared.image.KesvuotImage.{KesvuotImage}
-use Rattle.macho_rows.specs.declared.symbols.KesvuotSymbol.{KesvuotSymbol}
 
--- the symbol is no debugging entry (N_STAB), and has this name
+-- the symbol is not a debugging entry (N_STAB), and has this name
 abbrev pub HasName : List ℕ → KesvuotImage → List ℕ → Symbol → Type 0
 HasName image row name symbol =
     (bit_and symbol.kind nlist.N_STAB ≡ 0) × (name_at image row symbol.strx ≡ Some name)
@@ -33,7 +29,7 @@ abbrev pub NoneBelow : (Symbol → Type 0) → List Symbol → ℕ → Type 0
 NoneBelow P symbols number =
     (k : ℕ) (other : Symbol) → k < number → slice_get symbols k ≡ Some other → ¬ P other
 
--- the symbol is the first of these of which P holds, and has this index
+-- the symbol is the first with P, and has this index
 abbrev pub IsFirst : (Symbol → Type 0) → List Symbol → ℕ → Symbol → Type 0
 IsFirst P symbols number symbol =
     (slice_get symbols number ≡ Some symbol) × P symbol × NoneBelow P symbols number
@@ -42,26 +38,21 @@ IsFirst P symbols number symbol =
 abbrev pub HasNone : (Symbol → Type 0) → List Symbol → Type 0
 HasNone P symbols = (k : ℕ) (other : Symbol) → slice_get symbols k ≡ Some other → ¬ P other
 
--- the answer is the first of these symbols of which P holds, of an image with so many sections
-abbrev pub FindsFirst : (Symbol → Type 0) → List Symbol → ℕ → ℕ → KesvuotSymbol → ℕ → Type 0
-FindsFirst P symbols sections status symbol number =
-    ((status ≡ KESVUOT_OK)
-    × (s : Symbol) × IsFirst P symbols number s × (symbol ≡ symbol_row sections s))
-    ⊎ ((status ≡ KESVUOT_NONE) × HasNone P symbols × (symbol ≡ no_symbol) × (number ≡ 0))
+-- the index of the first of these symbols of which P holds, and the symbol, or nothing
+abbrev pub FindsFirst : (Symbol → Type 0) → List Symbol → Option (ℕ × Symbol) → Type 0
+FindsFirst P symbols found =
+    MatchOption found (HasNone P symbols) (λ first. IsFirst P symbols first.0 first.1)
 
--- the answer on a name, by the numbers of the struct
-abbrev pub IsNamed : List ℕ → KesvuotImage → List ℕ → ℕ → KesvuotSymbol → ℕ → Type 0
+-- the first symbol with a name, by the numbers of the struct
+abbrev pub IsNamed : List ℕ → KesvuotImage → List ℕ → Option (ℕ × Symbol) → Type 0
 IsNamed image row name =
     FindsFirst (HasName image row name)
     (map (symbol_at image) (items_inside image row.symbols nlist.NLIST_64_SIZE row.symbol_count))
-    row.section_count
 
--- the answer on a name, by the image alone: among all its symbols
-abbrev pub FindsNamed : List ℕ → List ℕ → ℕ → KesvuotSymbol → ℕ → Type 0
+-- the same by the image alone: among all its symbols
+abbrev pub FindsNamed : List ℕ → List ℕ → Option (ℕ × Symbol) → Type 0
 FindsNamed image name =
-    FindsFirst (HasNameIn image name)
-    (map (symbol_at image) (symbols_of image (commands_of image)))
-    (section_count image (commands_of image))
+    FindsFirst (HasNameIn image name) (map (symbol_at image) (symbols_of image (commands_of image)))
 
 -- What only proofs need.
 

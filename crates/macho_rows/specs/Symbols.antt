@@ -1,6 +1,6 @@
 -- The rows of the symbols and of the indirect entries of an image, by the numbers of its struct, which
 -- the caller may have changed, and by the image alone. (mach-o/nlist.h: nlist_64)
-use Rattle.std.specs.Prelude.{◌≡◌, ◌≢◌, ℕ, ◌+◌, ◌-◌, ◌^◌, ◌==◌, ◌<◌, ◌&&◌, List, length, map, take, drop, min, slice_get, Contains, Option, Some, None, MatchOption, nat_le, if◌then◌else◌}
+use Rattle.std.specs.Prelude.{◌≡◌, ◌≢◌, ℕ, ◌+◌, ◌-◌, ◌^◌, ◌==◌, ◌<◌, ◌&&◌, List, length, map, take, drop, min, slice_get, Contains, Option, Some, None, nat_le, if◌then◌else◌}
 use Rattle.std.specs.Option.{option_map, unwrap_or}
 use Rattle.macho_fields.specs.Field.{string_from}
 use Rattle.macho_fields.specs.Image.{word, commands_of}
@@ -16,13 +16,12 @@ use Rattle.macho_image.specs.declared.symtab.Symtab.{Symtab}
 use Rattle.macho_rows.specs.Image.{symtab_in, dysymtab_in, field_of}
 use Rattle.macho_rows.specs.Rows.{first_string}
 use Rattle.macho_rows.specs.Spans.{part_or_none, span_at, span_of}
-use Rattle.macho_rows.specs.Status.{KESVUOT_OK, KESVUOT_NONE}
 use Rattle.macho_rows.specs.declared.cursor.KesvuotCursor.{KesvuotCursor}
 use Rattle.macho_rows.specs.declared.image.KesvuotImage.{KesvuotImage}
 use Rattle.macho_rows.specs.declared.span.KesvuotSpan.{KesvuotSpan}
 use Rattle.macho_rows.specs.declared.symbols.KesvuotSymbol.{KesvuotSymbol}
 
--- the index of the section with this number, which is from 1 on, and 2^32 - 1 where there is none
+-- the index of the section with this number, which is from 1 on, and 2^32 - 1 where the number names none
 abbrev pub section_of : ℕ → ℕ → ℕ
 section_of sect sections =
     if nat_le 1 sect && nat_le sect sections then sect - 1 else 2 ^ 32 - 1
@@ -39,7 +38,7 @@ symbol_row sections symbol = record {
   reserved = 0;
 }
 
--- those of the table, in its order, and none where it does not lie inside the image
+-- the rows of the table, in its order, and none where it does not lie inside the image
 abbrev pub symbol_rows : List ℕ → KesvuotImage → List KesvuotSymbol
 symbol_rows image row =
     map (symbol_row row.section_count) (map (symbol_at image)
@@ -61,7 +60,7 @@ indirect_rows image row =
 abbrev pub indirects_left : List ℕ → KesvuotImage → KesvuotCursor → List ℕ
 indirects_left image row cursor = drop cursor.items (indirect_rows image row)
 
--- The name at strx in the strings. There is none where strx is 0, where the strings do not lie inside the
+-- The name at strx in the strings. It is empty where strx is 0, where the strings do not lie inside the
 -- image, and where no zero byte of them ends it.
 abbrev pub name_at : List ℕ → KesvuotImage → ℕ → Option (List ℕ)
 name_at image row strx =
@@ -72,12 +71,6 @@ name_at image row strx =
 abbrev pub name_span : List ℕ → KesvuotImage → ℕ → Option KesvuotSpan
 name_span image row strx =
     option_map (span_of (row.slice.offset + (row.strings + strx))) (name_at image row strx)
-
--- the answer on strx
-abbrev pub IsName : List ℕ → KesvuotImage → ℕ → ℕ → KesvuotSpan → Type 0
-IsName image row strx status name =
-    MatchOption (name_span image row strx) ((status ≡ KESVUOT_NONE) × (name ≡ span_at 0 0))
-    (λ span. (status ≡ KESVUOT_OK) × (name ≡ span))
 
 -- the same of a symbol, and no bytes where there is none
 abbrev pub name_of : List ℕ → KesvuotImage → KesvuotSymbol → KesvuotSpan
@@ -105,36 +98,36 @@ row_at image symbol = record {
   reserved = 0;
 }
 
--- those of all symbols, in the order of their table
+-- the rows of all symbols, in the order of their table
 abbrev pub all_symbols : List ℕ → List KesvuotSymbol
 all_symbols image = map (row_at image) (symbols_of image (commands_of image))
 
--- There are nsyms of them, and 0 where there is no LC_SYMTAB. These are the rows from the first on.
+-- There are nsyms of them, and 0 without an LC_SYMTAB. These are the rows from the first on.
 abbrev pub HasAllSymbols : List ℕ → List KesvuotSymbol → Type 0
 HasAllSymbols image rows =
     (rows ≡ all_symbols image)
     × (length (all_symbols image) ≡ symbol_count image (commands_of image))
 
--- Where strx is that of a symbol, and not 0, the name is that of the symbol: the bytes from strx on in the
+-- Where strx is a symbol's, and not 0, the name is the symbol's: the bytes from strx on in the
 -- strings of LC_SYMTAB, up to the first zero byte, in an image that begins at `place` in the file.
-abbrev pub NamesSymbols : List ℕ → ℕ → ℕ → ℕ → KesvuotSpan → Type 0
-NamesSymbols image place strx status name =
+abbrev pub NamesSymbols : List ℕ → ℕ → ℕ → Option KesvuotSpan → Type 0
+NamesSymbols image place strx name =
     let from = field_of (λ (t : Symtab). t.stroff) (symtab_in image) + strx in
     (symbol : ℕ) → Contains (symbols_of image (commands_of image)) symbol
     → n_strx image symbol ≡ strx → strx ≢ 0
-    → (status ≡ KESVUOT_OK) × (name ≡ span_of (place + from) (string_from from image))
+    → name ≡ Some (span_of (place + from) (string_from from image))
 
 -- the same of each of the first n symbols, whose names these are
 abbrev pub NamesEach : List ℕ → ℕ → List KesvuotSymbol → ℕ → List KesvuotSpan → Type 0
 NamesEach image place symbols n names =
     (k : ℕ) (symbol : KesvuotSymbol) (name : KesvuotSpan) → k < n → slice_get symbols k ≡ Some symbol
-    → slice_get names k ≡ Some name → NamesSymbols image place symbol.strx KESVUOT_OK name
+    → slice_get names k ≡ Some name → NamesSymbols image place symbol.strx (Some name)
 
 -- all indirect entries, in the order of their table
 abbrev pub all_indirects : List ℕ → List ℕ
 all_indirects image = map (word image) (indirects_of image (commands_of image))
 
--- There are nindirectsyms of them, and 0 where there is no LC_DYSYMTAB. These are the rows from the first
+-- There are nindirectsyms of them, and 0 without an LC_DYSYMTAB. These are the rows from the first
 -- on.
 abbrev pub HasAllIndirects : List ℕ → List ℕ → Type 0
 HasAllIndirects image rows =

@@ -1,33 +1,53 @@
 //! What is at the addresses of an image.
 
-ghost use Rattle.std.specs.Prelude.{◌≡◌};
+ghost use Rattle.std.specs.Prelude.{◌≡◌, None};
 ghost use Rattle.macho_fields.specs.Bytes.{bytes_of};
-ghost use Rattle.macho_rows.specs.Address.{supplier, IsAnswer};
+ghost use Rattle.macho_fields.specs.Layers.{NothingBreaks};
+ghost use Rattle.macho_fields.specs.Rules.{BreaksImage};
+ghost use Rattle.macho_rows.specs.Address.{supplier, HasSource, IsSourceAt};
 ghost use Rattle.macho_rows.specs.Address.{supplies as supplies_of};
+ghost use Rattle.macho_rows.specs.Rows.{IsOfImage};
 ghost use Rattle.macho_rows.specs.Segments.{segment_bytes};
-ghost use Rattle.macho_rows.specs.Spans.{span_at};
 
 use crate::parts::{part_or_none, rest};
 use crate::span::{Held, KesvuotSpan};
-use crate::status::{NONE, OK, ZERO};
 use macho_image::{Image, Segment};
 
-/// Writes where the bytes at the address lie, in an opened image, as `kesvuot_find_address` does.
-pub fn write_span_at(held: &Held, image: &Image, address: u64, span: &mut KesvuotSpan) -> u32
-    requires image { bytes_of held.now.bytes ≡ image.now }
-    requires empty { span.old ≡ span_at 0 0 }
-    ensures { IsAnswer image.now held.now.place address result span.new }
+/// What a segment has at an address.
+#[derive(Clone, Copy)]
+pub enum Source {
+    /// Its bytes in the file, from the one at the address on.
+    Bytes(KesvuotSpan),
+    /// A zero that is not a byte of the file.
+    Zero,
+}
+
+/// What the first segment that has the address has there. It is `None` if no segment has it, or the headers of the
+/// image break a rule.
+pub fn source_at(held: &Held, address: u64) -> Option<Source>
+    ensures source { IsOfImage (bytes_of held.now.bytes)
+        (HasSource (bytes_of held.now.bytes) held.now.place address) result }
+    ensures sound { NothingBreaks (BreaksImage (bytes_of held.now.bytes) None)
+        → IsSourceAt (bytes_of held.now.bytes) held.now.place address result }
 {
-    let Some(segment) = segment_with(image, address) else {
-        return NONE;
-    };
+    match held.open() {
+        Some(image) => source_in(held, &image, address),
+        None => None,
+    }
+}
+
+// The same in an opened image.
+fn source_in(held: &Held, image: &Image, address: u64) -> Option<Source>
+    requires { bytes_of held.now.bytes ≡ image.now }
+    ensures { HasSource image.now held.now.place address result }
+{
+    let segment = segment_with(image, address)?;
     let past = address.saturating_sub(segment.vmaddr());
     let bytes = rest(bytes_of(&segment), past);
     if bytes.is_empty() {
-        return ZERO;
+        return Some(Source::Zero);
     }
-    *span = held.span_of(segment.fileoff() + past, bytes);
-    OK
+    Some(Source::Bytes(held.span_of(segment.fileoff() + past, bytes)))
 }
 
 // The first segment that has the address.

@@ -1,7 +1,7 @@
 //! Where in a table the next rows are read.
 
 /// Where in a table the next row is: all zeros before the first. (`struct kesvuot_cursor`) A table uses
-/// those of the numbers that it needs. A caller may pass any numbers: no export trusts them.
+/// the numbers that it needs. A caller may pass any numbers: no export trusts them.
 #[repr(C)]
 #[derive(Clone, Copy)]
 pub struct KesvuotCursor {

@@ -1,6 +1,6 @@
 //! The image of a slice: what is there once, how many rows its tables have, and where they begin.
 
-ghost use Rattle.std.specs.Prelude.{◌≡◌, ◌+◌, ◌/◌, ◌^◌, ◌≤◌, ◌<◌, ◌⊎◌, length, if◌then◌else◌};
+ghost use Rattle.std.specs.Prelude.{◌≡◌, ◌+◌, ◌/◌, ◌^◌, ◌≤◌, ◌<◌, length, if◌then◌else◌, MatchOption};
 ghost use Rattle.std.specs.Option.{option_map, option_map_or, unwrap_or};
 ghost use Rattle.macho_fields.specs.Bytes.{bytes_of};
 ghost use Rattle.macho_fields.specs.Image.{word, cpu_subtype, commands_of};
@@ -13,17 +13,15 @@ ghost use Rattle.macho_rows.specs.Builds.{builds_in};
 ghost use Rattle.macho_rows.specs.Commands.{commands_in};
 ghost use Rattle.macho_rows.specs.Libraries.{loaded_by, library_row, no_library};
 ghost use Rattle.macho_rows.specs.Segments.{segments_seen};
-ghost use Rattle.macho_rows.specs.Image.{IsSliceAnswer, Shows, ShowsNothing};
+ghost use Rattle.macho_rows.specs.Image.{IsSliceImage, Shows, ShowsNothing};
 ghost use Rattle.macho_rows.specs.Image.{image_in, only, uuid_in, symtab_in, dysymtab_in, id_in, field_of};
 ghost use Rattle.macho_rows.specs.Image.{bit as bit_of, groups_at as groups_in, no_groups};
 ghost use Rattle.macho_rows.specs.Rows.{IsBrokenImage, HasUnbrokenHeaders};
-ghost use Rattle.macho_rows.specs.Status.{KESVUOT_OK, KESVUOT_REFUSED};
 
 use crate::builds::Builds;
 use crate::libraries::{KesvuotLibrary, Libraries, NO_LIBRARY, library_row};
 use crate::load::Load;
 use crate::span::{Held, KesvuotSpan, NO_SPAN, held_at};
-use crate::status::{OK, REFUSED, UNREAD};
 use crate::table::count;
 use macho_fat::{Slice, is_unread_image};
 use macho_fields::header::loader::LC_ID_DYLIB;
@@ -100,46 +98,48 @@ impl KesvuotImage {
     }
 }
 
-/// Reads the image of a slice into a struct that shows nothing.
-pub fn read_slice(file: Bytes, slice: &Slice, image: &mut KesvuotImage) -> u32
-    requires marked { MarksReadInside (bytes_of file) slice.now }
-    requires empty { ShowsNothing image.old }
-    ensures { IsSliceAnswer (bytes_of file.entry) (slice_of slice.now) result image.new }
+/// The image of a slice.
+#[derive(Clone, Copy)]
+pub enum SliceImage {
+    /// A 64-bit little-endian one.
+    Read(KesvuotImage),
+    /// One of 32 bits, or a big-endian one, of which only the slice and its architecture are shown.
+    Unread(KesvuotImage),
+}
+
+/// The image of a slice. It is `None` if no accepted file has these bytes.
+pub fn read_slice(file: Bytes, slice: &Slice) -> Option<SliceImage>
+    requires { MarksReadInside (bytes_of file) slice.now }
+    ensures { IsSliceImage (bytes_of file.entry) (slice_of slice.now) result }
 {
-    let Some(bytes) = file.part(slice.span) else {
-        return REFUSED;
-    };
+    let bytes = file.part(slice.span)?;
     if slice.read {
-        return read_image(bytes, slice, image);
+        let image = read_image(bytes, slice)?;
+        return Some(SliceImage::Read(image));
     }
     if !is_unread_image(Bytes::new(bytes)) {
-        return REFUSED;
+        return None;
     }
     let (cputype, cpusubtype) = slice.arch.unwrap_or((0, 0));
+    let mut image = no_image();
     image.slice = KesvuotSpan {
         offset: slice.span.start,
         size: slice.span.len,
     };
     image.cputype = cputype;
     image.cpusubtype = cpusubtype;
-    UNREAD
+    Some(SliceImage::Unread(image))
 }
 
-// Reads a 64-bit little-endian image, which the bytes of the slice are.
-fn read_image(bytes: &[u8], slice: &Slice, image: &mut KesvuotImage) -> u32
-    requires fits { slice.now.span.start + length bytes.now < 2 ^ 64 }
-    requires empty { ShowsNothing image.old }
-    ensures { ((result ≡ KESVUOT_OK) × HasUnbrokenHeaders bytes.now slice.now.arch
-        × Shows bytes.now slice.now.span.start image.new)
-        ⊎ ((result ≡ KESVUOT_REFUSED) × IsBrokenImage bytes.now slice.now.arch
-        × ShowsNothing image.new) }
+// A 64-bit little-endian image, which the bytes of the slice are: none where its headers break a rule.
+fn read_image(bytes: &[u8], slice: &Slice) -> Option<KesvuotImage>
+    requires { slice.now.span.start + length bytes.now < 2 ^ 64 }
+    ensures { MatchOption result (IsBrokenImage bytes.now slice.now.arch)
+        (λ row. HasUnbrokenHeaders bytes.now slice.now.arch × Shows bytes.now slice.now.span.start row) }
 {
     match Image::open(Bytes::new(bytes), slice.arch) {
-        Ok(opened) => {
-            *image = row_of(&opened, slice.span.start);
-            OK
-        }
-        Err(_) => REFUSED,
+        Ok(opened) => Some(row_of(&opened, slice.span.start)),
+        Err(_) => None,
     }
 }
 
@@ -237,7 +237,7 @@ fn symtab(image: &Image) -> Symtab
     }
 }
 
-// Where the indirect entries begin, and how many there are: 0 where there is no `LC_DYSYMTAB`.
+// Where the indirect entries begin, and how many there are: 0 without an `LC_DYSYMTAB`.
 fn indirects(image: &Image) -> (u64, u64)
     ensures place { result.0 ≡ field_of (λ t. t.indirectsymoff) (dysymtab_in image.now) }
     ensures count { result.1 ≡ field_of (λ t. t.nindirectsyms) (dysymtab_in image.now) }

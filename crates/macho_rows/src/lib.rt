@@ -16,7 +16,6 @@ pub mod parts;
 pub mod sections;
 pub mod segments;
 pub mod span;
-pub mod status;
 pub mod symbol_index;
 pub mod symbol_names;
 pub mod symbols;

@@ -45,7 +45,7 @@ pub enum Wanted {
     Dysymtabs,
     DyldInfos,
     EncryptionInfos,
-    /// Those with this `cmd`, which is that of a `linkedit_data_command`.
+    /// Those with this `cmd`, which a `linkedit_data_command` has.
     LinkeditData(u32),
 }
 

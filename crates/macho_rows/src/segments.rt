@@ -26,7 +26,7 @@ pub struct KesvuotSegment {
     pub last: u64,
     pub fileoff: u64,
     pub filesize: u64,
-    /// The index of its first section among those of all segments, and how many it has.
+    /// The index of its first section among the sections of all segments, and how many it has.
     pub first_section: u64,
     pub section_count: u32,
     pub maxprot: u32,
@@ -83,7 +83,7 @@ pub fn row_of(image: &Held, segment: u64, sections: u64) -> KesvuotSegment
     }
 }
 
-/// The last of the addresses from `start` on: below 2^64, and 0 where there are none.
+/// The last of the addresses from `start` on: below 2^64, and 0 without addresses.
 pub fn last_address(start: u64, size: u64) -> u64
     ensures { result ≡ last_address start size }
 {

@@ -11,8 +11,8 @@ use macho_fields::header::loader::SHORT_NAME_SIZE;
 use macho_fields::{Bytes, Span};
 use macho_image::Image;
 
-/// Some bytes of a file: `size` bytes, of which the first is at `offset` from the start of the file. An
-/// empty one is at 0.
+/// Some bytes of a file: `size` bytes from `offset` on, counted from the start of the file. An
+/// empty span is at 0.
 #[repr(C)]
 #[derive(Clone, Copy)]
 pub struct KesvuotSpan {
@@ -52,7 +52,7 @@ impl<'a> Held<'a> {
         Image::open(self.bytes, None).ok()
     }
 
-    /// Where bytes of the image lie in the file, of which the first is at `start` in the image.
+    /// Where bytes of the image lie in the file, which begin at `start` in the image.
     pub fn span_of(&self, start: u64, bytes: &[u8]) -> KesvuotSpan
         requires { bytes.now ≢ [] → start < length (bytes_of self.now.bytes) }
         ensures { result ≡ span_of (self.now.place + start) bytes.now }

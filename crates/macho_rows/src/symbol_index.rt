@@ -1,9 +1,9 @@
-//! Symbols by address: an index of those that have one, and a search in it. (`mach-o/nlist.h`: `nlist_64`)
+//! Symbols by address: an index of the symbols with an address, and a search in it. (`mach-o/nlist.h`: `nlist_64`)
 
-ghost use Rattle.std.specs.Prelude.{◌≡◌, ◌-◌, ◌^◌, ◌≤◌, ◌<◌, true, length, slice_get, slice_index, MatchOption};
+ghost use Rattle.std.specs.Prelude.{◌≡◌, ◌-◌, ◌^◌, ◌≤◌, ◌<◌, true, length, slice_get, slice_index};
 ghost use Rattle.macho_fields.specs.Bytes.{bytes_of};
 ghost use Rattle.macho_rows.specs.SymbolIndex.{symbols_shown, addresses, IsIndex};
-ghost use Rattle.macho_rows.specs.SymbolIndex.{is_address, sort_key, is_at_or_before, BeginsPast, IsLastSymbol};
+ghost use Rattle.macho_rows.specs.SymbolIndex.{is_address, sort_key, is_at_or_before, BeginsPast, FindsLast};
 
 use crate::symbols::SymbolTable;
 use macho_image::{Symbol, Symbols};
@@ -92,8 +92,7 @@ fn symbol_with(symbols: &Symbols, number: u32) -> Option<Symbol>
 
 /// The last position of an index whose symbol begins at or before the address, and the symbol.
 pub fn last_at_or_before(symbols: &Symbols, index: &[u32], address: u64) -> Option<(usize, Symbol)>
-    ensures { MatchOption result (BeginsPast symbols.now index.now address 0)
-        (λ found. IsLastSymbol symbols.now index.now address found.0 found.1) }
+    ensures { FindsLast symbols.now index.now address result }
 {
     let last = count_at_or_before(symbols, index, address).checked_sub(1)?;
     let symbol = symbol_with(symbols, index[last])?;

@@ -1,8 +1,8 @@
 //! Symbols by name. (`mach-o/nlist.h`: `nlist_64`)
 
-ghost use Rattle.std.specs.Prelude.{◌≡◌, ◌↔◌, ◌^◌, ◌<◌, length, slice_get, IsTrue, Some, MatchOption};
+ghost use Rattle.std.specs.Prelude.{◌≡◌, ◌↔◌, ◌^◌, ◌<◌, length, slice_get, IsTrue, Some};
 ghost use Rattle.macho_rows.specs.Rows.{first_string};
-ghost use Rattle.macho_rows.specs.SymbolNames.{HasNameAmong, HasNone, IsFirst};
+ghost use Rattle.macho_rows.specs.SymbolNames.{HasNameAmong, FindsFirst};
 
 use crate::parts::rest;
 use crate::symbols::strings;
@@ -13,8 +13,7 @@ use macho_image::{Symbol, Symbols};
 /// The first of the symbols that has the name, and its index.
 pub fn first_named(symbols: Symbols, strings: &[u8], name: &[u8]) -> Option<(u64, Symbol)>
     requires { length symbols < 2 ^ 64 }
-    ensures { MatchOption result (HasNone (HasNameAmong strings.now name.now) symbols.entry)
-        (λ found. IsFirst (HasNameAmong strings.now name.now) symbols.entry found.0 found.1) }
+    ensures { FindsFirst (HasNameAmong strings.now name.now) symbols.entry result }
 {
     let mut number = 0;
     for symbol in symbols {
@@ -26,7 +25,7 @@ pub fn first_named(symbols: Symbols, strings: &[u8], name: &[u8]) -> Option<(u64
     None
 }
 
-// Whether a symbol has the name, and is no debugging entry.
+// Whether a symbol has the name, and is not a debugging entry.
 fn is_named(strings: &[u8], name: &[u8], symbol: &Symbol) -> bool
     ensures { IsTrue result ↔ HasNameAmong strings.now name.now symbol.now }
 {

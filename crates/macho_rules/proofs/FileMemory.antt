@@ -23,7 +23,7 @@ module _ (file : List ℕ) where
   abbrev TakesIn : FileSlice → Type 0
   TakesIn slice = IsImage (slice_bytes file slice) × ImageTakesMemory (slice_bytes file slice) slice.arch
 
-  -- that of a file with no table is the whole file
+  -- the slice of a file with no table is the whole file
   in_one : (k : ℕ) → IsSomeAnd (slice_get (record { start = 0; size = length file; arch = None } ∷ []) k) TakesIn → IsImage file × ImageTakesMemory file None
   in_one zero takes = subst (λ bytes. IsImage bytes × ImageTakesMemory bytes None) (take_all (length file) file (le_refl (length file))) takes
   in_one (suc k) takes = absurd takes

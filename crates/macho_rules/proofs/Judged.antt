@@ -19,7 +19,7 @@ use Rattle.macho_fields.specs.FirstPlace.{IsFirstOf, IsLeastPlace}
 use Rattle.macho_fields.proofs.FirstPlaces.{AreBreaks, first_breaks, first_judged}
 use Rattle.macho_rules.proofs.Searches.{Searching, search_found, search_ended}
 
--- only an opened image keeps the rules before those of segments
+-- only an opened image keeps the rules before the rules of segments
 pub keeps_opened : (image : List ℕ) (r : Rule) → rank rule.SegmentAddress ≤ rank r → KeptBefore image r → IsOpened image
 keeps_opened image r late below = may_open image (λ other place early broken. below other place (omega (arith, late)) broken)
 

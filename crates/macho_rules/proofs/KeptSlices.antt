@@ -37,7 +37,7 @@ all_kept file n counted kept = scopes.all_kept BreaksFile BreaksImage file (λ s
 pub file_first : (file : List ℕ) (b : Break) → IsLeast (BreaksFile file) b → IsFirstBroken file b
 file_first file b least = scopes.scope_first BreaksFile BreaksImage file 0 b b (scopes.none_kept BreaksFile BreaksImage file) least refl (omega arith)
 
--- and so is that of a slice, where nothing is broken before the slice
+-- and so is the first break of a slice, where nothing is broken before the slice
 pub slice_first : (file : List ℕ) (k : ℕ) (slice : FileSlice) (found b : Break) → slice_get (slices_of file) k ≡ Some slice → KeptSlices file k
     → IsImage (slice_bytes file slice) → IsLeast (BreaksImage (slice_bytes file slice) slice.arch) found
     → b.rule ≡ found.rule → b.place ≡ slice.start + found.place → IsFirstBroken file b

@@ -47,7 +47,7 @@ module _ (image : List ℕ) where
   mapped_all [] = refl
   mapped_all (p ∷ ps) = ap (λ rest. p ∷ rest) (mapped_all ps)
 
-  -- the mapped segments are those of the segments that have addresses, in the order of the commands
+  -- the mapped segments are the segments that have addresses, in the order of the commands
   pub mapped_rise : IsOpened image → Ordered (λ a b. a < b) (mapped_segments image)
   mapped_rise opened =
       let (count, next, chain) = opened_commands image opened in

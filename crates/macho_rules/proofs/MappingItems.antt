@@ -75,7 +75,7 @@ module _ (image : List ℕ) where
   pub pairs_counted : (seen : List ℕ) (pairs : List (Span × ℕ)) → pairs ≡ numbered_memory image 0 seen → length pairs ≡ length seen
   pairs_counted seen pairs are = ap length are ∙ length_numbered 0 seen
 
-  -- each pair is that of a segment, at its index
+  -- each pair belongs to a segment, at its index
   numbered_of : (k : ℕ) (ps : List ℕ) (pair : Span × ℕ) → Contains (numbered_memory image k ps) pair → (i : ℕ) × (i < length ps) × (pair ≡ (memory_at image (get_or ps i 0), k + i))
   numbered_of k [] pair (j, less, at) = absurd (omega arith)
   numbered_of k (p ∷ ps) pair (zero, less, at) = (0, omega arith, sym at ∙ ap (λ (n : ℕ). (memory_at image p, n)) (omega arith))
@@ -93,7 +93,7 @@ module _ (image : List ℕ) where
       let (i, within, is, has) = numbered_has (k + 1) ps p (j, omega arith, at) in
       (suc i, omega arith, is, contains_later (memory_at image q, k) _ _ (subst (Contains (numbered_memory image (k + 1) ps)) (ap (λ (n : ℕ). (memory_at image p, n)) (omega arith)) has))
 
-  -- the pairs that were collected are those of the segments, in whatever order they stand
+  -- the pairs that were collected belong to the segments, in whatever order they stand
   pub pairs_moved : (items pairs : List (Span × ℕ)) → items ≡ numbered_memory image 0 (mapped_segments image) → IsPermutation items pairs
       → IsPermutation (numbered_memory image 0 (mapped_segments image)) pairs
   pairs_moved items pairs are moved = subst (λ xs. IsPermutation xs pairs) are moved
@@ -176,7 +176,7 @@ module _ (image : List ℕ) where
 
   module _ (pairs : List (Span × ℕ)) (files : List FilePart) (moved : IsPermutation (numbered_memory image 0 (mapped_segments image)) pairs)
       (parts : files ≡ map (file_at image) (mapped_segments image)) where
-    -- a pair is that of a segment
+    -- a pair belongs to a segment
     pair_of : (pair : Span × ℕ) → Contains pairs pair → (i : ℕ) × (i < length (mapped_segments image)) × (pair ≡ (memory_at image (get_or (mapped_segments image) i 0), 0 + i))
     pair_of pair has = numbered_of 0 (mapped_segments image) pair (Contains-permutation pairs (numbered_memory image 0 (mapped_segments image)) pair (IsPermutation-sym _ _ moved) has)
 

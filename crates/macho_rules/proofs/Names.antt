@@ -46,6 +46,6 @@ module _ (image bytes : List ℕ) (same : bytes ≡ image) (symtab : Symtab) (is
       let ends = past_last_end image symtab.stroff symtab.strsize strx last are in
       rw (← ap (λ (t : Symtab). t.stroff) here) (rw (← ap (λ (t : Symtab). t.strsize) here) (λ endless. (past strx).0 (ends.0 endless), λ far. ends.1 ((past strx).1 far)))
 
--- where there is no symbol table, any number is a limit
+-- without a symbol table any number is a limit
 pub no_names : (image : List ℕ) (limit : ℕ) → first_with_cmd image loader.LC_SYMTAB (commands_of image) ≡ None → IsNameLimit image limit
 no_names image limit none c first strx = absurd (none-some c (sym none ∙ first))

@@ -1,4 +1,4 @@
--- The kinds of which an opened image has one command at most.
+-- The kinds of command that an opened image has once at most.
 use Rattle.std.proofs.Common.{◌≡◌, ◌==◌, ℕ, ◌+◌, ◌≤◌, ◌<◌, Bool, List, [], ◌∷◌, filter, Contains, Option, None, Some, slice_get, refl, sym, ap, ◌∙◌, subst, arith, lit<, inl, inr}
 use Rattle.std.specs.Prelude.{find}
 use Rattle.std.specs.Option.{option_map, option_map_or}

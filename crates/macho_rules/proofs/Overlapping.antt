@@ -83,7 +83,7 @@ module _ (image : List ℕ) (opened : IsOpened image) where
         any_of _ _ (get_or mapped i 0) (mapped_among image _ (Contains-get_or mapped i 0 (omega (arith, within)))) (rises i j less within, here),
       )
 
-  -- the first span that shares a place with an earlier one is that of the first such segment
+  -- the first span that shares a place with an earlier one belongs to the first such segment
   pub least_overlapping : (j p : ℕ) → slice_get (mapped_segments image) j ≡ Some p → (all : List Span) → all ≡ map (memory_at image) (mapped_segments image) → IsLeastSharing all j
       → IsOverlapping p × ((q : ℕ) → IsOverlapping q → p ≤ q)
   least_overlapping j p at all are given = (subst IsOverlapping is (of_index j sharing.0), λ q broken. least q broken)

@@ -103,7 +103,7 @@ before_of P file each k slice is image =
     let same = get_or_from_slice_get (slices_of file) k slice slice is in
     subst (λ s. P (slice_bytes file s)) same (each k slice (slice_get_within (slices_of file) k slice is) (subst (λ s. IsImage (slice_bytes file s)) (sym same) image))
 
--- where each place lies in the image, that of a refusal does
+-- where each place lies in the image, the place of a refusal does
 pub refused_inside : {T : Type 0} (breaks : Rule → ℕ → Type 0) (CanRunOut : Type 0) (image : List ℕ) → ((r : Rule) (place : ℕ) → breaks r place → place ≤ length image) → (answer : Result T Refusal)
     → IfErr answer (IsRefusalOf breaks CanRunOut) → IfErr answer (RefusesInside image)
 refused_inside breaks CanRunOut image near (Ok x) refused = tt

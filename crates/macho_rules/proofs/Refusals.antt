@@ -8,7 +8,7 @@ use Rattle.macho_rules.specs.Verdict.{IsRefusalOf}
 use Rattle.macho_rules.specs.declared.refusal.Refusal.{Refusal}
 use Rattle.macho_rules.specs.declared.refusal.Refusal.TheVariants as refusal
 
--- an answer that there is no memory, or that the rule is broken first of all
+-- an answer that memory ran out, or that the rule is broken first of all
 pub without_memory : {T : Type 0} (breaks : Rule → ℕ → Type 0) (r : Rule) (CanRunOut : Type 0) → CanRunOut → (answer : Result T Refusal) → IsErrAnd answer (λ given. given ≡ refusal.Memory)
     → ContinuesWithMemory breaks r CanRunOut answer
 without_memory breaks r CanRunOut can (Ok x) is = absurd is

@@ -50,7 +50,7 @@ ordered_at R (x ∷ xs) d i zero order less within = absurd (omega arith)
 ordered_at R (x ∷ xs) d zero (suc j) order less within = order.0 (get_or xs j d) (Contains-get_or xs j d (omega arith))
 ordered_at R (x ∷ xs) d (suc i) (suc j) order less within = ordered_at R xs d i j order.1 (omega arith) (omega arith)
 
--- the place of each item is not below that of an earlier one
+-- the place of each item is not below the place of an earlier one
 abbrev pub Rising : {X : Type 0} → (X → ℕ) → List X → Type 0
 Rising place xs = Ordered (λ a b. place a ≤ place b) xs
 

@@ -92,7 +92,7 @@ module _ (image : List ℕ) (symtab : Symtab) (is : Some symtab ≡ option_map (
   pub symtab_read : symtab ≡ symtab_at image symtab.place
   symtab_read = let (c, first, same) = first_at (symtab_at image) _ symtab is in same ∙ ap (symtab_at image) (sym (ap (λ (t : Symtab). t.place) same))
 
-  -- its strings lie inside the image, or there are none
+  -- its strings lie inside the image, or it has none
   pub strings_inside : (r : Rule) → rank rule.TableRange < rank r → KeptBefore image r → 0 < symtab.strsize → symtab.stroff + symtab.strsize ≤ length image
   strings_inside r late below some =
       let (c, first, same) = first_at (symtab_at image) _ symtab is in

@@ -1,4 +1,4 @@
--- The items of a table of which an opened image has one at most: its symbols, its indirect entries.
+-- The items of a table that an opened image has once at most: its symbols, its indirect entries.
 use Rattle.std.proofs.Common.{ap, ◌∙◌, ◌≡◌, ℕ, ◌+◌, ◌*◌, ◌≤◌, ◌<◌, ◌⊎◌, ◌↔◌, true, List, [], ◌∷◌, map, length, Any, Contains, Option, None, Some, refl, sym, subst, arith, inl, inr}
 use Rattle.std.specs.Prelude.{nat_le, if◌then◌else◌}
 use Rattle.std.specs.Option.{option_map_or}
@@ -65,7 +65,7 @@ table_rises image start each n = elim (cases_Bool (nat_le (start + each * n) (le
     up : (i k : ℕ) → i ≤ k → start + each * i ≤ start + each * k
     up i k less = let steps : each * i ≤ each * k = mul-le-mul_left each less in omega arith
 
--- A kind of which an image has one command at most; its table has so many items of so many bytes
+-- A kind of command that an image has once at most; its table has so many items of so many bytes
 -- each, and what is read of an item knows the item's place.
 module _ {X : Type 0} (image : List ℕ) (cmd each : ℕ) (start count : ℕ → ℕ) (at : ℕ → X) (place : X → ℕ) (same_place : (p : ℕ) → place (at p) ≡ p) where
   -- an item is at the place, and has P

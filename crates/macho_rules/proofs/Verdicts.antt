@@ -74,7 +74,7 @@ answered P answer given e is same p = subst (λ a. IfErr a P) (sym is) (subst P 
 abbrev pub no_slice : Slice
 no_slice = record { span = record { start = 0; len = 0 }; arch = None; read = false }
 
--- the slice at an index of the list is that of the file
+-- the slice at an index of the list is the file's
 pub slice_at : (file : List ℕ) (slices : List Slice) → AreSlices file slices → (k : ℕ) (d : Slice) → k < length slices → slice_get (slices_of file) k ≡ Some (slice_of (slice_index_or slices k d))
 slice_at file slices are k d less =
     ap (λ ss. slice_get ss k) (sym are.all) ∙ (slice_get-map slice_of slices k ∙ ap (option_map slice_of) (slice_get-get_or slices k d less))

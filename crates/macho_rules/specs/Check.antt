@@ -22,7 +22,7 @@ abbrev pub ContinuesWithMemory : {T : Type 0} → (Rule → ℕ → Type 0) → 
 ContinuesWithMemory breaks r CanRunOut answer =
     MatchResult answer (λ _. KeptBelow breaks (rank r + 1)) (IsRefusalOf breaks CanRunOut)
 
--- an answer reports a break of the rule at the place, and none where there is no place
+-- an answer reports a break of the rule at the place, and none without a place
 abbrev pub AnswersAt : {T : Type 0} → Rule → Option ℕ → Result T Break → Type 0
 AnswersAt r place answer =
     MatchOption place (IsOk answer)

@@ -73,7 +73,7 @@ section_notes =
     (rule.SectionAddress, λ breaks. breaks.address) ∷ (rule.SectionFile, λ breaks. breaks.file)
     ∷ (rule.SectionRelocs, λ breaks. breaks.relocs) ∷ []
 
--- where the items first break each of these rules
+-- where the items first break each rule
 abbrev pub AreFirstByRule : {X B : Type 0} → (X → ℕ) → (Rule → X → Type 0) → Notes B → List X → B → Type 0
 AreFirstByRule place Breaks notes items breaks =
     AllByRecursion (λ note. IsFirstOf place (Breaks note.0) items (note.1 breaks)) notes
@@ -109,7 +109,7 @@ abbrev pub base_among : List SegmentView → Option ℕ
 base_among segments =
     option_map (λ s. vmaddr s.image s.place) (find (λ s. shows_start s.image s.place) segments)
 
--- what is found of those segments that are mapped
+-- what is found about the mapped segments
 pub record AreMapped (segments : List SegmentView) (mapped : Mapped) : Type 0 where
   pub order : IsOrderOf (memory_among segments) mapped.order
   pub count : mapped.count ≡ min (length (memory_among segments)) (2 ^ 64 - 1)

@@ -32,7 +32,7 @@ IsRefusalOf breaks CanRunOut (refusal.Broken b) = IsLeast breaks b
 IsRefusalOf breaks CanRunOut refusal.Memory = CanRunOut
 
 -- The verdict on an image takes memory: the rules before segment-overlap are unbroken, and the
--- addresses of the mapped segments, of which there are some, neither ascend nor descend.
+-- addresses of the mapped segments, at least one, neither ascend nor descend.
 abbrev pub ImageTakesMemory : List ℕ → Option (ℕ × ℕ) → Type 0
 ImageTakesMemory image arch =
     KeptBelow (BreaksImage image arch) (rank rule.SegmentOverlap) × HasMapped image
@@ -73,7 +73,7 @@ abbrev pub refusal_of : FatFault → Refusal
 refusal_of (fault.Broken b) = refusal.Broken b
 refusal_of fault.Memory = refusal.Memory
 
--- the landmarks are those of the image in the span
+-- the landmarks belong to the image in the span
 abbrev pub WasFound : List ℕ → Found → Type 0
 WasFound file found = HasLandmarks (part found.span.start found.span.len file) found.landmarks
 

@@ -14,7 +14,7 @@ use crate::tables::{symbol_group, table_range};
 use macho_image::Image;
 use std::alloc::Global;
 
-/// Decides the rules of an opened image, in their order: those of its segments, its sections, its
+/// Decides the rules of an opened image, in their order: the rules of its segments, its sections, its
 /// tables, its symbols and its entry. It returns the first broken one, with its place in the image.
 ///
 /// One walk over the segments and their sections, and one over the symbols, note where each of their

@@ -27,7 +27,7 @@ pub(crate) fn entry(image: &Image, base: Option<u64>) -> Result<(), Break>
     Ok(())
 }
 
-// Whether there is no base, or no segment runs at the address that `main` names. No segment has an
+// Whether the image has no base, or no segment runs at the address that `main` names. No segment has an
 // address past the last one.
 fn has_no_entry(image: &Image, base: Option<u64>, main: MainCommand) -> bool
     requires kept { KeptBefore image.now Rule.Entry }

@@ -60,8 +60,8 @@ impl Mapping {
     ghost use Rattle.macho_rules.specs.Verdict.{HasMapped};
 
     /// The mapping of the image in the slice with this index, or `None` if the slice is not read,
-    /// or there is none with the index. It takes memory for the mapped segments of the image alone,
-    /// and none if there are none.
+    /// or the file does not have one. It takes memory for the mapped segments of the image alone,
+    /// and none without any.
     pub fn of(alloc: Global, verified: &Verified, index: u64) -> Result<Option<Mapping>, AllocError>
         ensures is_image { IfOk result (λ mapping.
             IsSome mapping ↔ HasImage verified.now index) }
@@ -85,7 +85,7 @@ impl Mapping {
     }
 
     /// The mapping of an image that breaks no rule, so that no two of its segments share an
-    /// address. It takes memory for the mapped segments alone, and none if there are none.
+    /// address. It takes memory for the mapped segments alone, and none without any.
     pub fn of_image(alloc: Global, image: &Image) -> Result<Mapping, AllocError>
         requires { NothingBreaks (BreaksImage image.now None) }
         ensures sources { IfOk result (λ mapping. GivesSources image.now (sources mapping)) }

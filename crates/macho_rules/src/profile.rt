@@ -16,7 +16,7 @@ use macho_fields::{Break, Rule};
 use macho_image::Image;
 use std::alloc::Global;
 
-/// The rules that a profile adds to those of the layout.
+/// The rules that a profile adds to the layout's.
 pub trait ProfileRules {
     /// An image breaks the rule at the place.
     ghost breaks: { List ℕ → Rule → ℕ → Type 0 };

@@ -59,7 +59,7 @@ fn judge_file(file: Bytes) -> Result<(), Break>
     }
 }
 
-// Decides the rules of a universal file, and then those of its images.
+// Decides the rules of a universal file, and then the rules of its images.
 fn judge_universal(file: Bytes) -> Result<(), Break>
     requires universal { IsUniversal (bytes_of file) }
     requires kept { KeptBelow (BreaksFile (bytes_of file)) (rank Rule.FatTruncated) }

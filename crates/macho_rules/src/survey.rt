@@ -143,7 +143,7 @@ impl<'a> SegmentSurvey<'a> {
         self.section_count
     }
 
-    // What the order of the mapped segments shows of those that share an address. The place of a
+    // What the order of the mapped segments shows about segments that share an address. The place of a
     // segment is its tag.
     pub(crate) fn sharing(&self) -> Sharing
         ensures { IsSharingOf (tagged_memory self.now) result }
@@ -158,7 +158,7 @@ impl<'a> SegmentSurvey<'a> {
         self.mapped.count
     }
 
-    // The base address of the image: that of the first segment that shows the start of the file.
+    // The base address of the image: the `vmaddr` of the first segment that shows the start of the file.
     pub(crate) fn base(&self) -> Option<u64>
         ensures { result ≡ base_of self.now (commands_of self.now) }
     {
@@ -285,7 +285,7 @@ impl Mapped {
     ghost use Rattle.macho_image.specs.Segment.{SegmentView};
     ghost use Rattle.macho_rules.specs.Survey.{AreMapped};
 
-    // There are none.
+    // No segment is mapped.
     const fn none() -> Mapped
         ensures { AreMapped [] result }
     {
@@ -310,7 +310,7 @@ impl Mapped {
     }
 }
 
-// The base address: the one found before, if any, otherwise that of the segment.
+// The base address: the one found before, if any, otherwise the segment's.
 fn base_with(base: Option<u64>, segment: &Segment) -> Option<u64>
     ensures { result ≡ option_or base (base_among (segment.now ∷ [])) }
 {

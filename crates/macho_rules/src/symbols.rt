@@ -94,7 +94,7 @@ impl<'a> SymbolSurvey<'a> {
 }
 
 /// The first offset in the strings of the symbol table from which on no name ends: the one past their last zero
-/// byte, and 0 if they have none, or there is no symbol table.
+/// byte, and 0 if they have none, or the image has no symbol table.
 pub fn name_limit(image: &Image) -> u64
     ensures { IsNameLimit image.now result }
 {

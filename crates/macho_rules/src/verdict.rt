@@ -61,7 +61,7 @@ impl<'a> Model for Verified<'a> {
 /// ascend or descend.
 pub fn verify<'a>(alloc: Global, file: &'a [u8]) -> Result<Verified<'a>, Refusal>
     // It accepts only a file that breaks no rule, and refuses only one that breaks a rule, unless
-    // there is no memory.
+    // memory runs out.
     ensures accepted { OnOk result (IsUnbroken file.now) }
     ensures refused { IfErr result (IsRefusal file.now) }
 
@@ -181,8 +181,8 @@ impl<'a> Verified<'a> {
         self.slices.as_slice().get(index as usize)
     }
 
-    /// The image in the slice with this index, or `None` if the slice is of another kind, or there
-    /// is none. It judges nothing. It rescans the commands of the image, unless its slice is the last one.
+    /// The image in the slice with this index, or `None` if the slice is of another kind, or the file
+    /// has none. It judges nothing. It rescans the commands of the image, unless its slice is the last one.
     pub fn image(&self, index: u64) -> Option<Image<'a>>
         ensures is_image { IsSome result ↔ HasImage self.now index }
         ensures image { IfSome result (λ image. IsSomeAnd (slice_get (slices_of self.now) index)
@@ -194,7 +194,7 @@ impl<'a> Verified<'a> {
         Some(self.reopen(span, bytes))
     }
 
-    // The image of these bytes, which lie in the span of the file.
+    // The image of the bytes, which lie in the span of the file.
     fn reopen(&self, span: Span, bytes: Bytes<'a>) -> Image<'a>
         requires bytes { bytes_of bytes ≡ part span.start span.len self.now }
         requires unbroken { NothingBreaks (BreaksImage (bytes_of bytes) None) }
@@ -209,7 +209,7 @@ impl<'a> Verified<'a> {
     }
 
     // Where the image in the slice with this index lies in the file, and its bytes, or `None` if the
-    // slice is of another kind, or there is none.
+    // slice is of another kind, or the file has none.
     fn image_bytes(&self, index: u64) -> Option<(Span, Bytes<'a>)>
         ensures is_image { IsSome result ↔ HasImage self.now index }
         ensures bytes { IfSome result (λ image. IsSomeAnd (slice_get (slices_of self.now) index)

@@ -21,7 +21,7 @@ module _ (place_of : ℕ → ℕ) (count : ℕ) (P : ℕ → Type 0) where
   pub none_at : ((j : ℕ) → j < count → ¬ P j) → IsLeastPlace (AtItem place_of count P) None
   none_at none place (j, below, at, has) = none j below has
 
--- one item more has not the fact
+-- one item more is without the fact
 pub none_more : (P : ℕ → Type 0) (k : ℕ) → ((j : ℕ) → j < k → ¬ P j) → ¬ P k → (j : ℕ) → j < k + 1 → ¬ P j
 none_more P k none here j less has = elim (cases_lt j k) [
   | inl before ↦ none j before has

@@ -10,7 +10,7 @@ use Rattle.macho_fields.specs.declared.rule.Rule.TheVariants as rule
 use Rattle.macho_fields.proofs.Decided.{not_not, le_or_not, zero_or_none}
 use Rattle.macho_linked.specs.Rules.{BreaksImage}
 use Rattle.macho_sealed.specs.Good.{IsWholeDirectory, IsWholeSignature}
-use Rattle.macho_signature.specs.CodeDirectories.{code_directory, size_of_hash, slots_of, HasName, IsSound}
+use Rattle.macho_signature.specs.CodeDirectories.{code_directory, size_of_hash, slots_of, HasName, HasEarlierHashes, IsSound}
 use Rattle.macho_signature.specs.Signature.{bytes_at, BadDirectory, AreGoodDirectories, PartialDirectory}
 use Rattle.macho_signature.specs.Signed.{IsSignature}
 use Rattle.macho_signature.specs.Superblobs.{entry_offset, HasNoSuperblob, BadBlob, AreGoodBlobs}
@@ -31,6 +31,12 @@ has_name_or_not blob offset = elim (cases_eq offset 0) [
   | inr some ↦ elim (zero_or_none blob offset (length blob)) [ inl found ↦ inl (inr found) | inr unended ↦ inr (λ has. elim has [ inl none ↦ some none | inr found ↦ unended found ]) ]
 ]
 
+earlier_or_not : (size : ℕ) (directory : CodeDirectory) → HasEarlierHashes size directory ⊎ ¬ HasEarlierHashes size directory
+earlier_or_not size directory = elim (cases_eq directory.pre_encrypt_offset 0) [
+  | inl none ↦ inl (inl none)
+  | inr some ↦ elim (le_or_not (directory.pre_encrypt_offset + directory.code_slots * directory.hash_size) size) [ inl fits ↦ inl (inr fits) | inr past ↦ inr (λ has. elim has [ inl none ↦ some none | inr fits ↦ past fits ]) ]
+]
+
 sound_kept : (start : ℕ) (blob : List ℕ) (directory : CodeDirectory) → ¬ ¬ IsSound start blob directory → IsSound start blob directory
 sound_kept start blob directory sound = record {
   hashes = record {
@@ -45,6 +51,8 @@ sound_kept start blob directory sound = record {
   limit = not_not (le_or_not directory.limit start) (λ past. sound (λ is. past is.limit));
   identifier = not_not (has_name_or_not blob directory.ident_offset) (λ none. sound (λ is. none is.identifier));
   team = not_not (has_name_or_not blob directory.team_offset) (λ none. sound (λ is. none is.team));
+  earlier = not_not (earlier_or_not (length blob) directory) (λ none. sound (λ is. none is.earlier));
+  linkage = not_not (le_or_not (directory.linkage_offset + directory.linkage_size) (length blob)) (λ past. sound (λ is. past is.linkage));
 }
 
 whole_directory : (start : ℕ) (blob : List ℕ) → ¬ ¬ IsSomeAnd (code_directory blob) (IsSound start blob) → ¬ IsSomeAnd (code_directory blob) (λ directory. directory.limit ≢ start)

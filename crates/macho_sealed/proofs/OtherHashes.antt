@@ -1,4 +1,4 @@
--- From the pages and the blobs of which code directories have another hash to the least place of all.
+-- From the pages and the blobs with another hash in a code directory to the least place of all.
 use Rattle.std.proofs.Common.{◌≡◌, ◌↔◌, ℕ, ◌+◌, ◌≤◌, ◌⊎◌, List, get_or, true, false, Option, Some, None, arith, inl, inr}
 use Rattle.std.specs.Option.{is_some, option_map}
 use Rattle.std.proofs.lemmas.Bool.{true≢false, false≢true}
@@ -23,7 +23,7 @@ module _ (image : List ℕ) (start : ℕ) (signature : List ℕ) (directories : 
   abbrev OtherHash : ℕ → Directory → Type 0
   OtherHash place one = HasOtherHash image start signature (bytes_of one.blob) one.fields place
 
-  -- a bad hash is that of a page or of a blob
+  -- a bad hash is a page's or a blob's
   split : (place : ℕ) → (HaveOtherPage image directories place ⊎ OtherSpecial place) ↔ BadHash image start signature place
   split place = (to, from)
     where

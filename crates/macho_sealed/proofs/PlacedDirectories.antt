@@ -119,7 +119,7 @@ module _ (signature : List ℕ) (directories : List (Option Directory)) (are : A
           subst (λ (blob : List ℕ). IsSound start blob one.fields × (one.fields.limit ≡ start)) (sym bytes)
           (some_has (λ fields. IsSound start (bytes_at signature k) fields × (fields.limit ≡ start)) (code_directory (bytes_at signature k)) one.fields read (whole.directories k less is))
 
-  -- a rule of one of them is that of an entry
+  -- a rule of one of them is an entry's
   module _ (Rule : List ℕ → CodeDirectory → Type 0) where
     abbrev OfEntry : Type 0
     OfEntry = (k : ℕ) × (k < blob_count signature) × (IsDirectoryAt signature k × IsSomeAnd (code_directory (bytes_at signature k)) (Rule (bytes_at signature k)))

@@ -15,6 +15,7 @@ use Rattle.macho_fields.specs.declared.rule.Rule.{Rule}
 use Rattle.macho_fields.specs.declared.rule.Rule.TheVariants as rule
 use Rattle.macho_image.specs.Command.{first_with_cmd}
 use Rattle.macho_image.proofs.ReadParts.{length-part}
+use Rattle.macho_rules.proofs.Verdicts.{unbroken_opened}
 use Rattle.macho_sealed.specs.Good.{IsWholeSignature}
 use Rattle.macho_linked.specs.Rules.{BreaksImage as BreaksLinked}
 use Rattle.macho_sealed.specs.Rules.{BreaksImage}
@@ -29,6 +30,7 @@ use Rattle.macho_spans.specs.declared.span.Span.{Span}
 use Rattle.macho_tables.specs.DataTables.{IsDataTable}
 use Rattle.macho_tables.specs.Homes.{bytes_of_table}
 use Rattle.macho_tables.proofs.DataTables.{data_table_inside}
+use Rattle.macho_tables.proofs.HeldSegments.{segment_inside}
 use Rattle.macho_sealed.proofs.Blobs.{blob_inside, blob_filled}
 use Rattle.macho_sealed.proofs.Good.{whole_signature}
 use Rattle.macho_sealed.proofs.PageSpans.{page_inside}
@@ -96,6 +98,7 @@ module _ (image : List ℕ) (none : NothingBreaks (Breaks image None)) (linked :
 
   pub place_inside : (r : Rule) (place : ℕ) → BreaksImage image r place → place ≤ length image
   place_inside rule.SignatureMissing place (at, missing) = omega (arith, at)
+  place_inside rule.SignatureExecutable place (table, is, (has, runs)) = let inside = segment_inside image (unbroken_opened image none) place has in omega (arith, inside)
   place_inside rule.DirectoryRepeated place broken = signature_inside (λ start. RepeatedDirectory) (λ start bytes whole. repeated_near bytes whole.blobs) place broken
   place_inside rule.SignatureSlack place (table, is, (offset, at, slack)) = let inside = slack.0.0 in omega (arith, at, inside)
   place_inside rule.SignatureHash place (table, is, broken) =
@@ -117,5 +120,5 @@ missing_first image none b named at = (
 
 -- one with a signature does not
 pub not_missing : (image : List ℕ) (table : Span) → IsDataTable image loader.LC_CODE_SIGNATURE table → IsWholeSignature table.start (part table.start table.len image)
-    → KeptBelow (BreaksImage image) (rank rule.DirectoryRepeated)
+    → KeptBelow (BreaksImage image) (rank rule.SignatureExecutable)
 not_missing image table is whole r place early broken = first_kept image (λ p missing. missing.1 (table, is, whole.main)) r place early broken

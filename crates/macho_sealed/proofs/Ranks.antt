@@ -20,8 +20,9 @@ pub none_before : (image : List ℕ) → KeptBelow (BreaksImage image) (rank rul
 none_before = profiles.none_before BreaksImage Sealed rule.SignatureMissing rule.SignatureHash among
 
 -- where the first rule is unbroken, all up to the second are
-pub first_kept : (image : List ℕ) → ((place : ℕ) → ¬ BreaksSignatureMissing image place) → KeptBelow (BreaksImage image) (rank rule.DirectoryRepeated)
+pub first_kept : (image : List ℕ) → ((place : ℕ) → ¬ BreaksSignatureMissing image place) → KeptBelow (BreaksImage image) (rank rule.SignatureExecutable)
 first_kept image none rule.SignatureMissing place early broken = none place broken
+first_kept image none rule.SignatureExecutable place early broken = absurd (omega (arith, early))
 first_kept image none rule.DirectoryRepeated place early broken = absurd (omega (arith, early))
 first_kept image none rule.SignatureSlack place early broken = absurd (omega (arith, early))
 first_kept image none rule.SignatureHash place early broken = absurd (omega (arith, early))

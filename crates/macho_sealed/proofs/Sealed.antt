@@ -1,7 +1,7 @@
 -- What the code signature of an image that breaks no rule seals.
-use Rattle.std.proofs.Common.{◌≡◌, ℕ, zero, suc, ◌+◌, ◌<◌, ◌⊎◌, List, Option, None, Some, refl, sym, subst, arith, inl, inr}
+use Rattle.std.proofs.Common.{◌≡◌, ℕ, zero, suc, ◌+◌, ◌-◌, ◌<◌, ◌⊎◌, List, Contains, length, Option, None, Some, refl, sym, subst, arith, inl, inr}
 use Rattle.std.specs.Prelude.{IsSomeAnd}
-use Rattle.std.proofs.lemmas.Bool.{cases_lt}
+use Rattle.std.proofs.lemmas.Bool.{cases_lt, lt-ltb}
 use Rattle.macho_fields.specs.Field.{part}
 use Rattle.macho_fields.specs.First.{IsUnbroken}
 use Rattle.macho_fields.specs.Image.{commands_of}
@@ -9,12 +9,14 @@ use Rattle.macho_fields.specs.Layers.{NothingBreaks}
 use Rattle.macho_fields.specs.LoadCommands.{linkedit_data_table}
 use Rattle.macho_fields.specs.NonZero.{IsNonZero}
 use Rattle.macho_fields.specs.Rules.{BreaksImage as Breaks}
+use Rattle.macho_fields.specs.Segment.{all_segments, vmaddr, fileoff, RunsAt}
 use Rattle.macho_fields.specs.Symbol.{table_at}
 use Rattle.macho_fields.specs.declared.header.loader.TheConstants as loader
 use Rattle.macho_fields.specs.declared.rule.Rule.TheVariants as rule
 use Rattle.macho_fields.proofs.Decided.{not_not, both_or_not, le_or_not}
 use Rattle.macho_image.specs.Command.{first_with_cmd}
 use Rattle.macho_linked.specs.Rules.{BreaksImage as BreaksLinked, IsLinkedUnbroken}
+use Rattle.macho_sealed.specs.Executable.{IsExecutableIn}
 use Rattle.macho_sealed.specs.Good.{IsWholeSignature}
 use Rattle.macho_sealed.specs.Pages.{bytes_in, page_at, code_slot}
 use Rattle.macho_sealed.specs.Rules.{BreaksImage, IsSealedUnbroken}
@@ -25,12 +27,15 @@ use Rattle.macho_signature.specs.Signature.{IsDirectoryAt, bytes_at}
 use Rattle.macho_signature.specs.Signed.{IsSignature, page_of}
 use Rattle.macho_signature.specs.Superblobs.{blob_at, blob_count, blob_span, entry_offset}
 use Rattle.macho_signature.specs.declared.code_directory.CodeDirectory.{CodeDirectory}
+use Rattle.macho_image.proofs.ReadParts.{length-part}
+use Rattle.macho_signature.proofs.Images.{index_inside}
 use Rattle.macho_signature.proofs.Pages.{page_in_slots}
 use Rattle.macho_signature.proofs.Signed.{signed_image}
 use Rattle.macho_spans.specs.Span.{Holds}
 use Rattle.macho_spans.specs.declared.span.Span.{Span}
 use Rattle.macho_tables.specs.DataTables.{IsDataTable}
 use Rattle.macho_tables.specs.Homes.{bytes_of_table}
+use Rattle.macho_tables.proofs.DataTables.{data_table_inside}
 use Rattle.macho_sealed.proofs.Good.{whole_signature}
 use Rattle.macho_sealed.proofs.HashTests.{has_hash_or_not, special_or_not}
 use Rattle.macho_sealed.proofs.PageSpans.{page_inside, page_holds, page_only}
@@ -83,7 +88,7 @@ module _ (image : List ℕ) (start : ℕ) (signature blob : List ℕ) (directory
 -- A signature
 
 module _ (image : List ℕ) (start : ℕ) (signature : List ℕ) (signed : IsSignature start signature) (whole : IsWholeSignature start signature)
-    (repeated : (offset : ℕ) → ¬ RepeatedDirectory signature offset) (slack : (offset : ℕ) → ¬ NonZeroSlack image start signature offset) (hashes : (place : ℕ) → ¬ BadHash image start signature place) where
+    (runs : (place : ℕ) → ¬ IsExecutableIn (record { start = start; len = length signature }) image place) (repeated : (offset : ℕ) → ¬ RepeatedDirectory signature offset) (slack : (offset : ℕ) → ¬ NonZeroSlack image start signature offset) (hashes : (place : ℕ) → ¬ BadHash image start signature place) where
   directory_seals : (k : ℕ) → k < blob_count signature → IsDirectoryAt signature k → IsSomeAnd (code_directory (bytes_at signature k)) (Seals image start signature (bytes_at signature k))
   directory_seals k less is = by (code_directory (bytes_at signature k)) (whole.directories k less is) (λ place other. hashes place (k, less, (is, other)))
     where
@@ -98,6 +103,7 @@ module _ (image : List ℕ) (start : ℕ) (signature : List ℕ) (signed : IsSig
     placed = signed;
     directories = directory_seals;
     apart = none_repeated signature repeated;
+    executed = executed;
     rest = rest;
   }
     where
@@ -106,6 +112,26 @@ module _ (image : List ℕ) (start : ℕ) (signature : List ℕ) (signed : IsSig
       rest offset here = elim (cases_lt offset (entry_offset (blob_count signature))) [
         | inl index ↦ inl index
         | inr past ↦ elim (held_or_not signature offset (blob_count signature)) [ inl held ↦ inr held | inr outside ↦ absurd (slack offset (here, (past, outside))) ]
+      ]
+
+      in_signature : (offset : ℕ) → (offset < entry_offset (blob_count signature)) ⊎ ((k : ℕ) × (k < blob_count signature) × Holds (blob_span (blob_at signature k)) offset) → offset < length signature
+      in_signature offset (inl index) = let fits = index_inside signature whole.blobs.superblob in omega (arith, index, fits)
+      in_signature offset (inr (k, less, held)) = let fits = (signed.placed k less).end in let high = held.1 in omega (arith, high, fits)
+
+      executed : (segment address : ℕ) → Contains (all_segments image) segment → RunsAt image address segment
+          → IsNonZero image (fileoff image segment + (address - vmaddr image segment)) → fileoff image segment + (address - vmaddr image segment) < start
+      executed segment address has (supplied, filled, code) nonzero = elim (cases_lt (fileoff image segment + (address - vmaddr image segment)) start) [
+        | inl before ↦ before
+        | inr past ↦
+            let place = fileoff image segment + (address - vmaddr image segment) in
+            let low = supplied.0 in
+            let high = supplied.1 in
+            let here : start + (place - start) ≡ place = omega (arith, past) in
+            let within = in_signature (place - start) (rest (place - start) (subst (IsNonZero image) (sym here) nonzero)) in
+            absurd (runs segment (
+              has,
+              (omega (arith, low, high), lt-ltb 0 _ (omega (arith, code)), (place, (omega arith, omega (arith, low, filled)), (omega (arith, past), omega (arith, past, within)))),
+            ))
       ]
 
 -- An image
@@ -130,6 +156,12 @@ sealed_image image layout linked kept =
         is_seal image table.start (part table.start table.len image)
         (signed_image image (linked rule.SignatureBlob) (linked rule.SignatureDirectory) (linked rule.SignatureWhole) table is)
         (whole_signature image linked table is)
+        (λ place broken. kept rule.SignatureExecutable place (
+          table,
+          is,
+          subst (λ (len : ℕ). IsExecutableIn (record { start = table.start; len = len }) image place)
+              (length-part table.start table.len image (data_table_inside image loader.LC_CODE_SIGNATURE refl layout table is)) broken,
+        ))
         (λ offset broken. kept rule.DirectoryRepeated (table.start + offset) (table, is, (offset, refl, broken)))
         (λ offset broken. kept rule.SignatureSlack (table.start + offset) (table, is, (offset, refl, broken)))
         (λ place broken. kept rule.SignatureHash place (table, is, broken))

@@ -1,4 +1,4 @@
--- The pages of which code directories have another hash, where those with pages of one size are walked together.
+-- The pages with another hash in a code directory, where directories with pages of one size are walked together.
 use Rattle.std.proofs.Common.{◌≡◌, ◌↔◌, ℕ, ◌+◌, ◌≤◌, ◌<◌, ◌⊎◌, List, length, get_or, Option, None, Some, sym, ap, ◌∙◌, subst, arith, inl, inr}
 use Rattle.std.proofs.lemmas.Bool.{cases_lt}
 use Rattle.macho_fields.specs.FirstPlace.{IsLeastPlace}
@@ -16,7 +16,7 @@ use Rattle.macho_tables.specs.Items.{AtItem}
 use Rattle.macho_tables.specs.Places.{lesser}
 use Rattle.macho_tables.proofs.Places.{least_same, least_joined}
 
--- one with pages of this size has not the hash of the page k
+-- a directory with pages of this size does not have the hash of the page k
 abbrev pub LackPage : List ℕ → List (Option Directory) → ℕ → ℕ → ℕ → Type 0
 LackPage image directories size limit k = AnyDirectory directories (LacksPageOfSize size k (bytes_in image (page_span size limit k)))
 
@@ -39,7 +39,7 @@ is_shared image directories size one are =
       whole = subst (λ l. EachDirectory directories (IsWholeBefore l)) (sym end) are.each;
     })
 
--- so its pages are those of all
+-- so its pages are the pages of all
 module _ (image : List ℕ) (directories : List (Option Directory)) (size : ℕ) (one : CodeDirectory) (is : IsShared image directories size one) where
   pub count_shared : one.code_slots ≡ slots_of size one.limit
   count_shared = is.slots.slots ∙ ap (λ s. slots_of s one.limit) is.sized
@@ -85,7 +85,7 @@ module _ (image : List ℕ) (directories : List (Option Directory)) (limit : ℕ
               (n, of_some (LacksPageOfSize size k (bytes_in image (page_span size limit k))) (get_or directories n None) this found (same, λ has. bad (subst (λ (s : Span). HasPage k (bytes_in image s) this) (sym page) has))),
             )
 
-    -- the first page that one has not is at the least place
+    -- the first page whose hash one lacks is at the least place
     pub first_lack : (k : ℕ) → k < slots_of size limit → LackPage image directories size limit k → ((j : ℕ) → j < k → ¬ LackPage image directories size limit j)
         → IsLeastPlace (HaveOtherOfSize image directories size) (Some (page_span size limit k).start)
     first_lack k less lack none =

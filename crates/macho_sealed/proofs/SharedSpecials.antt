@@ -1,4 +1,4 @@
--- The blobs in special slots of which code directories have another hash.
+-- The blobs in special slots with another hash in a code directory.
 use Rattle.std.proofs.Common.{◌↔◌, ℕ, ◌<◌, List, get_or, Option, None, Some}
 use Rattle.macho_fields.specs.FirstPlace.{IsLeastPlace}
 use Rattle.macho_fields.proofs.Options.{some_of, of_some}
@@ -14,7 +14,7 @@ use Rattle.macho_tables.specs.Items.{AtItem}
 use Rattle.macho_tables.proofs.Places.{least_same}
 
 module _ (signature : List ℕ) (directories : List (Option Directory)) where
-  -- the blob k is in a special slot, and one of them has not its hash
+  -- the blob k is in a special slot, and one of them lacks its hash
   abbrev pub LackSpecial : ℕ → Type 0
   LackSpecial k = IsSpecialAt signature k × AnyDirectory directories (LacksSpecial (blob_at signature k).slot (bytes_at signature k))
 

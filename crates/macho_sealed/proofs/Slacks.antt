@@ -67,7 +67,7 @@ module _ (image : List ℕ) (start : ℕ) (signature : List ℕ) where
           | inr here ↦ let same : k ≡ j = omega (arith, late, here) in subst (λ i. start + (blob_at signature k).offset ≤ start + (blob_at signature i).offset) same (le_refl (start + (blob_at signature k).offset))
         ]
 
-    -- where there is none before the blob k, there is none up to its end
+    -- without a nonzero byte before the blob k there is not one up to its end
     none_past : k < blob_count signature → (found : Option ℕ) → is_some found ≡ false → IsLeastPlace (IsNonZeroWithin image (start + least_offset signature k) (start + (blob_at signature k).offset)) found
         → NoneBefore (start + blob_end (blob_at signature k))
     none_past less (Some first) wrong least = absurd (true≢false wrong)

@@ -14,11 +14,11 @@ use Rattle.macho_signature.specs.CodeDirectories.{code_directory}
 use Rattle.macho_signature.specs.Signature.{bytes_at}
 use Rattle.macho_signature.specs.Superblobs.{superblob_at, blob_at, blob_count, entry_offset, is_directory_slot, has_superblob, is_placed}
 
--- that of a blob, which has one if it is a code directory with a known type of hashes
+-- the cdhash of a blob, which has one if it is a code directory with a known type of hashes
 abbrev pub cdhash : List ℕ → Option Digest
 cdhash blob = option_and_then (λ directory. digest directory.hash_type blob) (code_directory blob)
 
--- that of the entry k of a signature, which has one if its blob is past the index and in the superblob, and in a slot
+-- the cdhash of the entry k of a signature, if its blob is past the index and in the superblob, and in a slot
 -- of code directories
 abbrev pub cdhash_at : List ℕ → ℕ → Option Digest
 cdhash_at signature k =
@@ -26,7 +26,7 @@ cdhash_at signature k =
     && is_placed (superblob_at signature) (entry_offset (blob_count signature)) (blob_at signature k)
     then cdhash (bytes_at signature k) else None
 
--- those of so many entries, from the entry k on
+-- the cdhashes of so many entries, from the entry k on
 unfoldable pub cdhashes_from : List ℕ → ℕ → ℕ → List Digest
 cdhashes_from signature k zero = []
 cdhashes_from signature k (suc left) =
@@ -37,11 +37,11 @@ cdhashes_from signature k (suc left) =
 abbrev pub entry_count : List ℕ → ℕ
 entry_count signature = if has_superblob signature then blob_count signature else 0
 
--- those of a signature, in the order of its index
+-- the cdhashes of a signature, in the order of its index
 abbrev pub signature_cdhashes : List ℕ → List Digest
 signature_cdhashes signature = cdhashes_from signature 0 (entry_count signature)
 
--- those of the signature of an image (mach-o/loader.h: LC_CODE_SIGNATURE)
+-- the cdhashes of the signature of an image (mach-o/loader.h: LC_CODE_SIGNATURE)
 abbrev pub image_cdhashes : List ℕ → List Digest
 image_cdhashes image =
     option_map_or

@@ -28,12 +28,12 @@ IsDirectoryOf blob found =
     MatchOption found (code_directory blob ≡ None)
     (λ directory. (bytes_of directory.blob ≡ blob) × (code_directory blob ≡ Some directory.fields))
 
--- that of an entry in a slot of code directories
+-- the directory of an entry in a slot of code directories
 abbrev pub IsDirectoryAmong : List ℕ → ℕ → Option Directory → Type 0
 IsDirectoryAmong signature count found =
     (k : ℕ) × (k < count) × IsDirectoryAt signature k × IsDirectoryOf (bytes_at signature k) found
 
--- those of the first entries, so many, are each at the number of its slot, and no others are there
+-- the directories of the first entries, so many, are each at the number of its slot, and no others are there
 pub record AreDirectories (signature : List ℕ) (count : ℕ) (directories : List (Option Directory)) : Type 0 where
   pub size : length directories ≡ slots.DIRECTORY_SLOTS
   pub placed : (k : ℕ) → k < count → IsDirectoryAt signature k
@@ -79,14 +79,14 @@ abbrev pub HasPage : ℕ → List ℕ → Directory → Type 0
 HasPage k page directory =
     HasHash directory.fields.hash_type page (bytes_in (bytes_of directory.blob) (code_slot directory.fields k))
 
--- if its pages are of this size; they are, and it has not
+-- if its pages are of this size; they are, and it lacks the hash
 abbrev pub HasPageOfSize : ℕ → ℕ → List ℕ → Directory → Type 0
 HasPageOfSize page_size k page directory = HasPageSize page_size directory → HasPage k page directory
 
 abbrev pub LacksPageOfSize : ℕ → ℕ → List ℕ → Directory → Type 0
 LacksPageOfSize page_size k page directory = HasPageSize page_size directory × ¬ HasPage k page directory
 
--- it has the special slot, and in it the hash of the message; it has not
+-- it has the special slot, and in it the hash of the message; it lacks the hash
 abbrev pub HasSpecial : ℕ → List ℕ → Directory → Type 0
 HasSpecial slot message directory = HasSpecialHash (bytes_of directory.blob) directory.fields slot message
 

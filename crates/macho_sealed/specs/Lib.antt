@@ -1,6 +1,7 @@
 pub mod Digests
 pub mod Pages
 pub mod Specials
+pub mod Executable
 pub mod Signature
 pub mod Slack
 pub mod Slots

@@ -17,7 +17,7 @@ page_span page_size limit k =
     if page_size == 0 then record { start = 0; len = limit }
     else record { start = k * 2 ^ page_size; len = min (2 ^ page_size) (limit - k * 2 ^ page_size) }
 
--- that of a code directory
+-- the page k of a code directory
 abbrev pub page_at : CodeDirectory → ℕ → Span
 page_at directory k = page_span directory.page_size directory.limit k
 

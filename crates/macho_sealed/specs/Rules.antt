@@ -6,11 +6,12 @@ use Rattle.macho_fields.specs.declared.rule.Break.{Break}
 use Rattle.macho_fields.specs.declared.rule.Rule.{Rule}
 use Rattle.macho_fields.specs.declared.rule.Rule.TheVariants as rule
 use Rattle.macho_rules.specs.Profile.{NoFileRule, AddedIn}
-use Rattle.macho_sealed.specs.Signature.{BreaksSignatureMissing, BreaksDirectoryRepeated, BreaksSignatureSlack, BreaksSignatureHash}
+use Rattle.macho_sealed.specs.Signature.{BreaksSignatureMissing, BreaksSignatureExecutable, BreaksDirectoryRepeated, BreaksSignatureSlack, BreaksSignatureHash}
 
 -- the image breaks the rule at the place
 abbrev pub BreaksImage : List ℕ → Rule → ℕ → Type 0
 BreaksImage image rule.SignatureMissing place = BreaksSignatureMissing image place
+BreaksImage image rule.SignatureExecutable place = BreaksSignatureExecutable image place
 BreaksImage image rule.DirectoryRepeated place = BreaksDirectoryRepeated image place
 BreaksImage image rule.SignatureSlack place = BreaksSignatureSlack image place
 BreaksImage image rule.SignatureHash place = BreaksSignatureHash image place

@@ -1,8 +1,9 @@
 -- What the code signature of an image that breaks no rule seals: each byte before it, and each blob with a hash. Each
--- other byte of the image is zero, or in a part of the signature. (cs_blobs.h: CS_SuperBlob, CS_CodeDirectory; FIPS 180-4)
-use Rattle.std.specs.Prelude.{◌≡◌, ℕ, ◌+◌, ◌≤◌, ◌<◌, ◌⊎◌, List, IsSomeAnd}
+-- other byte of the image is zero, or in a part of the signature, which may not be executed. (cs_blobs.h: CS_SuperBlob, CS_CodeDirectory; FIPS 180-4)
+use Rattle.std.specs.Prelude.{◌≡◌, ℕ, ◌+◌, ◌-◌, ◌≤◌, ◌<◌, ◌⊎◌, List, Contains, IsSomeAnd}
 use Rattle.macho_fields.specs.Field.{part}
 use Rattle.macho_fields.specs.NonZero.{IsNonZero}
+use Rattle.macho_fields.specs.Segment.{all_segments, vmaddr, fileoff, RunsAt}
 use Rattle.macho_fields.specs.Universal.{OfEachImage}
 use Rattle.macho_fields.specs.declared.header.loader.TheConstants as loader
 use Rattle.macho_linked.specs.Linked.{KeepsLinked}
@@ -47,6 +48,11 @@ pub record IsSeal (image : List ℕ) (start : ℕ) (signature : List ℕ) : Type
   pub directories : (k : ℕ) → k < blob_count signature → IsDirectoryAt signature k
       → IsSomeAnd (code_directory (bytes_at signature k)) (Seals image start signature (bytes_at signature k))
   pub apart : AreApart signature
+  -- a byte of the file at an address that may be executed is zero, or it lies before the signature: so it is in a page
+  -- of each code directory, which has its hash
+  pub executed : (segment address : ℕ) → Contains (all_segments image) segment → RunsAt image address segment
+      → IsNonZero image (fileoff image segment + (address - vmaddr image segment))
+      → fileoff image segment + (address - vmaddr image segment) < start
   -- a byte of the image, from the start of the signature on, that is not zero is in the superblob with its index, or
   -- in a blob
   pub rest : (offset : ℕ) → IsNonZero image (start + offset)
@@ -70,5 +76,5 @@ pub record KeepsSealed (file : List ℕ) : Type 0 where
   -- it breaks no sealed rule
   pub unbroken : IsSealedUnbroken file
   -- the code signature of each image has the hashes of all bytes before it and of the blobs in it, and each other byte
-  -- is zero, or in a part of the signature
+  -- is zero, or in a part of the signature, which may not be executed
   pub sealed : AreSealed file

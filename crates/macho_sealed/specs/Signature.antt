@@ -5,6 +5,7 @@ use Rattle.macho_fields.specs.Field.{part}
 use Rattle.macho_fields.specs.NonZero.{IsNonZero}
 use Rattle.macho_fields.specs.Universal.{WithEarlier}
 use Rattle.macho_fields.specs.declared.header.loader.TheConstants as loader
+use Rattle.macho_sealed.specs.Executable.{IsExecutableIn}
 use Rattle.macho_sealed.specs.Pages.{BadPage}
 use Rattle.macho_sealed.specs.Specials.{BadSpecial}
 use Rattle.macho_signature.specs.CodeDirectories.{code_directory}
@@ -25,7 +26,12 @@ HasSignature image =
 abbrev pub BreaksSignatureMissing : List ℕ → ℕ → Type 0
 BreaksSignatureMissing image place = (place ≡ 0) × ¬ HasSignature image
 
--- directory-repeated, at an entry: its slot is that of an earlier entry, and one of code directories
+-- signature-executable, at a segment: it may execute a byte of the signature
+abbrev pub BreaksSignatureExecutable : List ℕ → ℕ → Type 0
+BreaksSignatureExecutable image place =
+    (table : Span) × IsDataTable image loader.LC_CODE_SIGNATURE table × IsExecutableIn table image place
+
+-- directory-repeated, at an entry: its slot is the slot of an earlier entry, and a slot of code directories
 abbrev pub HaveSameSlot : List ℕ → ℕ → ℕ → Type 0
 HaveSameSlot signature j k = (blob_at signature j).slot ≡ (blob_at signature k).slot
 
@@ -57,7 +63,7 @@ HasOtherHash image start signature blob directory place =
     BadPage image blob directory place
     ⊎ ((offset : ℕ) × (place ≡ start + offset) × BadSpecial signature blob directory offset)
 
--- that of the blob k has
+-- the hash of the blob k has
 abbrev pub HasOtherHashAt : List ℕ → ℕ → List ℕ → ℕ → ℕ → Type 0
 HasOtherHashAt image start signature k place =
     IsDirectoryAt signature k

@@ -33,7 +33,7 @@ HasSpecialHash blob directory slot message =
     (slot ≤ directory.special_slots)
     × HasHash directory.hash_type message (bytes_in blob (special_slot directory slot))
 
--- it has not that of the blob k, which is in a special slot
+-- it lacks the hash of the blob k, which is in a special slot
 abbrev pub IsOtherSpecial : List ℕ → List ℕ → CodeDirectory → ℕ → Type 0
 IsOtherSpecial signature blob directory k =
     IsSpecialAt signature k

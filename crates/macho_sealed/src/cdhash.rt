@@ -15,7 +15,7 @@ use macho_signature::{CodeDirectory, Superblob};
 use macho_tables::data_table::data_table;
 use std::marker::Model;
 
-/// The cdhash of a blob, whole: the digest of all its bytes, by the type of its hashes. It is `None` if the blob is no
+/// The cdhash of a blob, whole: the digest of all its bytes, by the type of its hashes. `None` if the blob is not a
 /// code directory, or its type is not known.
 pub fn cdhash_of(blob: &[u8]) -> Option<Digest>
     ensures { result ≡ cdhash blob.now }

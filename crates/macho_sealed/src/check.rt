@@ -10,6 +10,7 @@ ghost use Rattle.macho_sealed.specs.Rules.{BreaksImage};
 ghost use Rattle.macho_spans.specs.Span.{end_of};
 ghost use Rattle.macho_tables.specs.DataTables.{IsDataTable};
 
+use crate::executable::first_executable;
 use crate::hashes::first_other_hash;
 use crate::profile::Sealed;
 use crate::repeated::first_repeated;
@@ -43,6 +44,8 @@ fn check_signature(image: &Image, table: Span) -> Result<(), Break>
 {
     let bytes = image.bytes();
     let signature = bytes.slice(table);
+    let executable = first_executable(image, table);
+    Sealed::judge(image, Rule::SignatureExecutable, executable)?;
     let repeated = place_from(table.start, first_repeated(signature));
     Sealed::judge(image, Rule::DirectoryRepeated, repeated)?;
     let slack = first_slack(bytes, table.start, signature);

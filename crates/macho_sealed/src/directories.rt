@@ -26,7 +26,7 @@ pub(crate) struct Directory<'a> {
 // The code directories of a signature, each at the number of its slot.
 pub(crate) type Directories<'a> = [Option<Directory<'a>>; DIRECTORY_SLOTS];
 
-// Those of a signature of which no two are in one slot.
+// The directories of a signature that has at most one in each slot.
 pub(crate) fn directories_of(signature: Bytes) -> Directories
     requires blobs { AreGoodBlobs (bytes_of signature) }
     requires apart { AreApart (bytes_of signature) }
@@ -52,7 +52,7 @@ fn directory_of(bytes: &[u8]) -> Option<Directory>
     Some(Directory { blob, fields })
 }
 
-// Whether each of those with pages of this size has the hash of the page with this index.
+// Whether each one with pages of this size has the hash of the page with this index.
 pub(crate) fn have_page(directories: &Directories, page_size: u8, index: u32, page: &[u8]) -> bool
     requires { EachDirectory directories.now (HasSlotFor page_size index) }
     ensures { MatchBool result

@@ -13,7 +13,7 @@ use crate::specials::first_other_special;
 use macho_fields::Bytes;
 use macho_tables::place::place_from;
 
-// The least place of a page, or of a blob of the signature, of which a code directory has another hash. The signature
+// The least place of a page, or of a blob of the signature, with another hash in a code directory. The signature
 // begins at `start` in the image, past all pages.
 pub(crate) fn first_other_hash(image: Bytes, start: u64, signature: Bytes) -> Option<u64>
     requires whole { IsWholeSignature start (bytes_of signature) }

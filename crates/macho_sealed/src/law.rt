@@ -25,7 +25,8 @@ pub fn first_sealed_broken_is_sealed(file: &[u8], first: Break)
 {}
 
 /// Each image of a file that breaks no rule of the layout, no linked rule and no sealed rule has a code signature, each
-/// code directory in it has the hashes of all bytes before it, and each byte past that is zero or in a part of it.
+/// code directory in it has the hashes of all bytes before it, and each byte past that is zero or in a part of it, which
+/// may not be executed.
 pub fn sealed_unbroken_is_sealed(file: &[u8])
     requires unbroken { IsUnbroken file.now }
     requires linked { IsLinkedUnbroken file.now }

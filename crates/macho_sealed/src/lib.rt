@@ -1,7 +1,7 @@
 #![tactic(auto)]
 //! The sealed profile, of a file that breaks no rule of the linked one: each image has a code signature, whose code
 //! directories have the hashes of all bytes before it and of the blobs in special slots, as requirements and
-//! entitlements. Each other byte of the image is zero, or in a part of the signature.
+//! entitlements. Each other byte of the image is zero, or in a part of the signature, which may not be executed.
 //!
 //! It does not say who signed: a signature by a certificate is bytes here. It says nothing of files beside the image,
 //! as `Info.plist` and resources, and nothing of what entitlements mean.
@@ -10,6 +10,7 @@ pub mod cdhash;
 mod check;
 pub mod digest;
 mod directories;
+mod executable;
 mod hashes;
 pub mod law;
 pub mod pages;
@@ -19,8 +20,6 @@ mod signature;
 mod slack;
 mod slots;
 pub mod specials;
-#[cfg(test)]
-mod tests;
 pub mod verdict;
 
 pub use cdhash::{Cdhashes, cdhash_of};

@@ -14,7 +14,7 @@ use macho_fields::{Bytes, Span};
 use macho_signature::CodeDirectory;
 use macho_tables::place::lesser;
 
-// The first byte of the first page of an image of which a code directory has another hash. Those with pages of one size
+// The first byte of the first page of an image with another hash in a code directory. Those with pages of one size
 // share a walk over the image.
 #[tactic(auto, using(crate::proofs::SharedPages::one_size_more))]
 pub(crate) fn first_other_page(image: Bytes, directories: &Directories) -> Option<u64>
@@ -28,7 +28,7 @@ pub(crate) fn first_other_page(image: Bytes, directories: &Directories) -> Optio
     least
 }
 
-// That of those with pages of this size. Each page is read once, and hashed for each of them.
+// The same for the directories with pages of this size. Each page is read once, and hashed for each of them.
 fn first_other_of_size(image: Bytes, directories: &Directories, page_size: u8) -> Option<u64>
     requires { AreWhole (bytes_of image) directories.now }
     ensures { IsLeastPlace (HaveOtherOfSize (bytes_of image.entry) directories.now page_size) result }

@@ -8,7 +8,7 @@ use macho_fields::header::cs_blobs::{
     CSSLOT_ALTERNATE_CODEDIRECTORIES, CSSLOT_ALTERNATE_CODEDIRECTORY_MAX, CSSLOT_CODEDIRECTORY,
 };
 
-// How many there are: that of the code directory which each signature has, and those of the others.
+// How many there are: one for the code directory that each signature has, and one for each of the others.
 pub(crate) const DIRECTORY_SLOTS: usize = CSSLOT_ALTERNATE_CODEDIRECTORY_MAX as usize + 1;
 
 // They are counted from 0.

@@ -16,7 +16,7 @@ use macho_fields::header::cs_blobs::{CSSLOT_ALTERNATE_CODEDIRECTORIES, CSSLOT_CO
 use macho_fields::{Bytes, Span};
 use macho_signature::CodeDirectory;
 
-// The first blob of a signature in a special slot that a code directory has not, or of which it has another hash.
+// The first blob of a signature in a special slot that a code directory lacks, or with another hash there.
 pub(crate) fn first_other_special(signature: Bytes, directories: &Directories) -> Option<u64>
     requires blobs { AreGoodBlobs (bytes_of signature) }
     requires hashes { EachDirectory directories.now HasHashesInside }

@@ -12,14 +12,15 @@ use std::alloc::Global;
 /// Decides the rules of a file as `macho_linked::verify_linked` does, and then the sealed rules, in their order:
 /// accepts it, or returns the first broken one, with its place in the file.
 ///
-/// The sealed rules are those of its 64-bit slices, in the order of the table. They take no memory. Each byte before
-/// a signature is hashed once for each code directory, of which there are at most six, and so is each blob with a hash.
+/// The sealed rules are about its 64-bit slices, in the order of the table. They take no memory. Each byte before
+/// a signature is hashed once for each code directory, at most six times, and so is each blob with a hash.
 ///
 /// It does not say who signed the file, nor whether `Info.plist` and other files beside it are those that were signed.
 pub fn verify_sealed<'a>(alloc: Global, file: &'a [u8]) -> Result<Verified<'a>, Refusal>
     // It accepts only a file that `verify_linked` accepts and that breaks no sealed rule: so in each image there is a
     // code signature, in which each code directory has the hash of each page of the bytes before it, and of each blob
-    // in a special slot. It refuses only a file that breaks a rule of the four profiles, unless there is no memory.
+    // in a special slot; and no byte of the signature may be executed. It refuses only a file that breaks a rule of the
+    // four profiles, unless memory runs out.
     ensures accepted { OnOk result (KeepsSealed file.now) }
     ensures refused { IfErr result (IsSealedRefusal file.now) }
     ensures file { IfOk result (λ verified. verified ≡ file.now) }

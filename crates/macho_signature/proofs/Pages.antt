@@ -40,7 +40,7 @@ one_place limit k less = elim (cases_Bool (limit == 0)) [
       (0, first, omega (arith, below))
 ]
 
--- The pages of a size, of which 0 says one page with all bytes
+-- The pages of a size, where 0 says one page with all bytes
 
 -- a place before the limit is in one of them
 pub page_in_slots : (size limit place : ℕ) → place < limit → page_of size place < slots_of size limit

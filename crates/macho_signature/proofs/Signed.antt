@@ -107,6 +107,11 @@ module _ (start : ℕ) (blob : List ℕ) (directory : CodeDirectory) (sound : ¬
         (not_not (zero_or_none blob directory.ident_offset (length blob)) (λ none. sound (λ is. elim is.identifier [ inl at ↦ some at | inr has ↦ none has ])));
     team = λ some. zero_after blob directory.team_offset (length blob)
         (not_not (zero_or_none blob directory.team_offset (length blob)) (λ none. sound (λ is. elim is.team [ inl at ↦ some at | inr has ↦ none has ])));
+    earlier = λ k less some.
+        let all = not_not (le_or_not (directory.pre_encrypt_offset + directory.code_slots * directory.hash_size) (length blob)) (λ past. sound (λ is. elim is.earlier [ inl at ↦ some at | inr fits ↦ past fits ])) in
+        let row = row_fits k directory.hash_size directory.code_slots directory.hash_size less (omega arith) in
+        omega (arith, row, all);
+    linkage = not_not (le_or_not (directory.linkage_offset + directory.linkage_size) (length blob)) (λ past. sound (λ is. past is.linkage));
   }
 
 -- where no blob is bad, all are good

@@ -41,7 +41,7 @@ placed_false superblob least blob = by (nat_le least blob.offset) (nat_le (blob.
     by a b c d one two three four (inr (inr (inl bad))) = later_false a (b && (c && d)) (later_false b (c && d) (first_false c d (three bad)))
     by a b c d one two three four (inr (inr (inr bad))) = later_false a (b && (c && d)) (later_false b (c && d) (later_false c d (four bad)))
 
--- that of a superblob
+-- the test of a superblob
 pub superblob_true : (signature : List ℕ) → ¬ HasNoSuperblob signature → has_superblob signature ≡ true
 superblob_true signature whole =
     both_true _ _ (not_below cs.CS_SUPER_BLOB_SIZE (length signature) (λ bad. whole (inl bad)))

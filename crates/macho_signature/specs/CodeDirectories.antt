@@ -1,4 +1,4 @@
--- A code directory, and when it is sound. Its bytes are those of its blob, an offset is one in them, and all numbers
+-- A code directory, and when it is sound. Its bytes are its blob's, an offset is one in them, and all numbers
 -- are big-endian. (cs_blobs.h: CS_CodeDirectory)
 use Rattle.std.specs.Prelude.{◌≡◌, ℕ, ◌+◌, ◌*◌, ◌^◌, ◌≤◌, ◌⊎◌, ◌==◌, ◌&&◌, nat_le, List, length, slice_index, Bool, Option, Some, None, IsSomeAnd, if◌then◌else◌}
 use Rattle.std.specs.Int.{div_ceil}
@@ -18,8 +18,8 @@ fields_size version =
     else (if nat_le cs.CS_SUPPORTSSCATTER version then cs.SIZE_WITH_SCATTER
     else cs.CS_CODE_DIRECTORY_SIZE)))))
 
--- version at 8; scatterOffset at 44, teamOffset at 48 and codeLimit64, of 64 bits, at 56 are 0 in a version without
--- them
+-- version at 8; scatterOffset at 44, teamOffset 48, codeLimit64, of 64 bits, 56, preEncryptOffset 92, linkageOffset 100
+-- and linkageSize 104 are 0 in a version without them
 abbrev pub version_of : List ℕ → ℕ
 version_of blob = big_word blob 8
 
@@ -31,6 +31,15 @@ team_offset blob = if nat_le cs.CS_SUPPORTSTEAMID (version_of blob) then big_wor
 
 abbrev pub code_limit_64 : List ℕ → ℕ
 code_limit_64 blob = if nat_le cs.CS_SUPPORTSCODELIMIT64 (version_of blob) then big_long blob 56 else 0
+
+abbrev pub pre_encrypt_offset : List ℕ → ℕ
+pre_encrypt_offset blob = if nat_le cs.CS_SUPPORTSRUNTIME (version_of blob) then big_word blob 92 else 0
+
+abbrev pub linkage_offset : List ℕ → ℕ
+linkage_offset blob = if nat_le cs.CS_SUPPORTSLINKAGE (version_of blob) then big_word blob 100 else 0
+
+abbrev pub linkage_size : List ℕ → ℕ
+linkage_size blob = if nat_le cs.CS_SUPPORTSLINKAGE (version_of blob) then big_word blob 104 else 0
 
 -- the limit: codeLimit64, or codeLimit, at 32, where that is 0
 abbrev pub code_limit : List ℕ → ℕ
@@ -51,6 +60,9 @@ directory_at blob = record {
   hash_type = slice_index blob 37;
   page_size = slice_index blob 39;
   team_offset = team_offset blob;
+  pre_encrypt_offset = pre_encrypt_offset blob;
+  linkage_offset = linkage_offset blob;
+  linkage_size = linkage_size blob;
 }
 
 -- The blob has the magic of a code directory, at 0, a known version, all fields of that, and no scatter vector
@@ -75,14 +87,14 @@ size_of_hash hash_type =
     else (if hash_type == cs.CS_HASHTYPE_SHA256_TRUNCATED then Some cs.CS_SHA256_TRUNCATED_LEN
     else (if hash_type == cs.CS_HASHTYPE_SHA384 then Some cs.CS_SHA384_LEN else None)))
 
--- The hashes have the size of their type, and lie inside: those of the code from hashOffset on, and the special ones
+-- The hashes have the size of their type, and lie inside: the code's from hashOffset on, and the special ones
 -- up to it
 pub record HasHashes (size : ℕ) (directory : CodeDirectory) : Type 0 where
   pub known : size_of_hash directory.hash_type ≡ Some directory.hash_size
   pub special : directory.special_slots * directory.hash_size ≤ directory.hash_offset
   pub code : directory.hash_offset + directory.code_slots * directory.hash_size ≤ size
 
--- how many pages have the bytes before a limit: pages of 2 ^ page_size bytes, of which the last may be cut; with
+-- how many pages have the bytes before a limit: pages of 2 ^ page_size bytes, and the last may be cut; with
 -- page_size 0 one page has all of them
 abbrev pub slots_of : ℕ → ℕ → ℕ
 slots_of page_size limit =
@@ -93,9 +105,16 @@ pub record HasSlots (directory : CodeDirectory) : Type 0 where
   pub page : directory.page_size ≤ cs.MOST_PAGE_SIZE
   pub slots : directory.code_slots ≡ slots_of directory.page_size directory.limit
 
--- a name is at an offset, with the zero byte that ends it; an offset of 0 says that there is none
+-- a name is at an offset, with the zero byte that ends it; an offset of 0 says that it has no name
 abbrev pub HasName : List ℕ → ℕ → Type 0
 HasName blob offset = (offset ≡ 0) ⊎ HasZero blob offset (length blob)
+
+-- the hashes of the code before it was encrypted, as many as of the code, lie inside; an offset of 0
+-- says that there are none
+abbrev pub HasEarlierHashes : ℕ → CodeDirectory → Type 0
+HasEarlierHashes size directory =
+    (directory.pre_encrypt_offset ≡ 0)
+    ⊎ (directory.pre_encrypt_offset + directory.code_slots * directory.hash_size ≤ size)
 
 -- of a directory of a signature that begins at a place of the image
 pub record IsSound (start : ℕ) (blob : List ℕ) (directory : CodeDirectory) : Type 0 where
@@ -104,6 +123,9 @@ pub record IsSound (start : ℕ) (blob : List ℕ) (directory : CodeDirectory) :
   pub limit : directory.limit ≤ start
   pub identifier : HasName blob directory.ident_offset
   pub team : HasName blob directory.team_offset
+  pub earlier : HasEarlierHashes (length blob) directory
+  -- the linkage is bytes of the blob
+  pub linkage : directory.linkage_offset + directory.linkage_size ≤ length blob
 
 -- the blob is a code directory, and sound
 abbrev pub IsSoundDirectory : ℕ → List ℕ → Type 0

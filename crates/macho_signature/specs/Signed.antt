@@ -41,6 +41,10 @@ pub record CoversPages (start : ℕ) (blob : List ℕ) (directory : CodeDirector
   -- the names end in the blob
   pub identifier : IsNamed blob directory.ident_offset
   pub team : IsNamed blob directory.team_offset
+  -- and so do the hashes of the pages before encryption, where there are some, and the linkage
+  pub earlier : (k : ℕ) → k < directory.code_slots → directory.pre_encrypt_offset ≢ 0
+      → directory.pre_encrypt_offset + k * directory.hash_size + directory.hash_size ≤ length blob
+  pub linkage : directory.linkage_offset + directory.linkage_size ≤ length blob
 
 -- a signature that begins at a place of the image
 pub record IsSignature (start : ℕ) (signature : List ℕ) : Type 0 where
@@ -60,6 +64,6 @@ IsSigned image =
     (table : Span) → IsDataTable image loader.LC_CODE_SIGNATURE table
     → IsSignature table.start (part table.start table.len image)
 
--- of a file: that of each 64-bit slice is
+-- of a file: the signature of each 64-bit slice is
 abbrev pub AreSigned : List ℕ → Type 0
 AreSigned = OfEachImage IsSigned

@@ -51,7 +51,7 @@ abbrev pub least_offset : List ℕ → ℕ → ℕ
 least_offset signature zero = entry_offset (blob_count signature)
 least_offset signature (suc k) = blob_end (blob_at signature k)
 
--- The slots of code directories: the one that each signature has, and up to five others
+-- The slots of code directories: the slot of the one in each signature, and of up to five others
 abbrev pub is_directory_slot : ℕ → Bool
 is_directory_slot slot =
     slot == cs.CSSLOT_CODEDIRECTORY

@@ -3,7 +3,7 @@
 ghost use Rattle.std.specs.Prelude.{◌≡◌, ◌↔◌, ◌≤◌, length, IsTrue};
 ghost use Rattle.macho_fields.specs.Bytes.{bytes_of};
 ghost use Rattle.macho_fields.specs.Field.{HasZero};
-ghost use Rattle.macho_signature.specs.CodeDirectories.{fields_size as fields_size_of, size_of_hash as size_of_hash_of, slots_of as slots_of_limit, version_of, is_directory as is_directory_of, scatter_offset as scatter_offset_of, team_offset as team_offset_of, code_limit as code_limit_of, HasName};
+ghost use Rattle.macho_signature.specs.CodeDirectories.{fields_size as fields_size_of, size_of_hash as size_of_hash_of, slots_of as slots_of_limit, version_of, is_directory as is_directory_of, scatter_offset as scatter_offset_of, team_offset as team_offset_of, pre_encrypt_offset as pre_encrypt_offset_of, linkage_offset as linkage_offset_of, linkage_size as linkage_size_of, code_limit as code_limit_of, HasName};
 
 use crate::superblob::{MAGIC, word_at};
 use macho_fields::header::cs_blobs::*;
@@ -36,6 +36,13 @@ pub const TEAM_OFFSET: u64 = 48;
 /// That of `codeLimit64`.
 pub const CODE_LIMIT_64: u64 = 56;
 
+/// That of `preEncryptOffset`.
+pub const PRE_ENCRYPT_OFFSET: u64 = 92;
+/// That of `linkageOffset`.
+pub const LINKAGE_OFFSET: u64 = 100;
+/// That of `linkageSize`.
+pub const LINKAGE_SIZE: u64 = 104;
+
 /// A code directory. (`CS_CodeDirectory`)
 #[derive(Clone, Copy, Debug, PartialEq, Eq)]
 pub struct CodeDirectory {
@@ -45,7 +52,7 @@ pub struct CodeDirectory {
     pub flags: u32,
     /// Where the hashes of the code begin. The special ones are before it, the first of them last.
     pub hash_offset: u32,
-    /// Where the identifier begins, or 0 if there is none.
+    /// Where the identifier begins, or 0 without one.
     pub ident_offset: u32,
     /// How many special hashes there are.
     pub special_slots: u32,
@@ -59,14 +66,20 @@ pub struct CodeDirectory {
     pub hash_type: u8,
     /// The log2 of the size in bytes of a page, or 0 if one page has all bytes.
     pub page_size: u8,
-    /// Where the team begins, or 0 if there is none.
+    /// Where the team begins, or 0 without one.
     pub team_offset: u32,
+    /// Where the hashes of the code before it was encrypted begin, or 0 if there are none.
+    pub pre_encrypt_offset: u32,
+    /// Where the linkage begins, or 0 if there is none.
+    pub linkage_offset: u32,
+    /// How many bytes the linkage has.
+    pub linkage_size: u32,
 }
 
 impl CodeDirectory {
-    ghost use Rattle.std.specs.Prelude.{◌≡◌, ◌↔◌, IsTrue};
+    ghost use Rattle.std.specs.Prelude.{◌≡◌, ◌+◌, ◌*◌, ◌↔◌, IsTrue};
     ghost use Rattle.macho_fields.specs.Bytes.{bytes_of};
-    ghost use Rattle.macho_signature.specs.CodeDirectories.{code_directory, IsSound, HasHashes, HasSlots};
+    ghost use Rattle.macho_signature.specs.CodeDirectories.{code_directory, IsSound, HasHashes, HasSlots, HasEarlierHashes};
 
     /// The code directory that a blob is. It is `None` if the blob has another magic number, a version that is not
     /// known, fewer bytes than the fields of that, or a scatter vector.
@@ -89,11 +102,15 @@ impl CodeDirectory {
             hash_type: blob.read_u8(HASH_TYPE),
             page_size: blob.read_u8(PAGE_SIZE),
             team_offset: team_offset(blob),
+            pre_encrypt_offset: pre_encrypt_offset(blob),
+            linkage_offset: linkage_offset(blob),
+            linkage_size: linkage_size(blob),
         })
     }
 
-    /// Whether the hashes, the identifier and the team lie in its blob, the hashes have the size of their type, and
-    /// there is one for each page of the bytes up to the limit, which does not pass the start of the signature.
+    /// Whether the hashes, the identifier, the team and the linkage lie in its blob, the hashes have the size of their
+    /// type, and there is one for each page of the bytes up to the limit, which does not pass the start of the
+    /// signature.
     pub fn is_sound(self, blob: Bytes, start: u64) -> bool
         ensures { IsTrue result ↔ IsSound start (bytes_of blob.entry) self }
     {
@@ -102,6 +119,8 @@ impl CodeDirectory {
             && self.limit <= start
             && has_name(blob, self.ident_offset)
             && has_name(blob, self.team_offset)
+            && self.has_earlier_hashes(blob.len())
+            && self.linkage_end() <= blob.len()
     }
 
     // Whether the hashes have the size of their type, and lie in so many bytes.
@@ -113,6 +132,27 @@ impl CodeDirectory {
         size_of_hash(self.hash_type) == Some(self.hash_size)
             && u64::from(self.special_slots) * hash_size <= start
             && start + u64::from(self.code_slots) * hash_size <= size
+    }
+
+    /// Whether the hashes of the code before it was encrypted lie in so many bytes, or there are none.
+    pub fn has_earlier_hashes(self, size: u64) -> bool
+        ensures { IsTrue result ↔ HasEarlierHashes size self }
+    {
+        self.pre_encrypt_offset == 0 || self.earlier_hashes_end() <= size
+    }
+
+    /// The offset past the hashes of the code before it was encrypted.
+    pub fn earlier_hashes_end(self) -> u64
+        ensures { result ≡ self.pre_encrypt_offset + self.code_slots * self.hash_size }
+    {
+        u64::from(self.pre_encrypt_offset) + u64::from(self.code_slots) * u64::from(self.hash_size)
+    }
+
+    /// The offset past the linkage.
+    pub fn linkage_end(self) -> u64
+        ensures { result ≡ self.linkage_offset + self.linkage_size }
+    {
+        u64::from(self.linkage_offset) + u64::from(self.linkage_size)
     }
 
     // Whether there is a hash of the code for each page.
@@ -184,7 +224,7 @@ fn is_directory(blob: Bytes) -> bool
         && scatter_offset(blob, version) == 0
 }
 
-// Where the scatter vector begins, or 0 if there is none.
+// Where the scatter vector begins, or 0 without one.
 fn scatter_offset(blob: Bytes, version: u32) -> u32
     requires version { version ≡ version_of (bytes_of blob) }
     requires fields { fields_size_of version ≤ length (bytes_of blob) }
@@ -197,13 +237,49 @@ fn scatter_offset(blob: Bytes, version: u32) -> u32
     }
 }
 
-// Where the team begins, or 0 if there is none.
+// Where the team begins, or 0 without one.
 fn team_offset(blob: Bytes) -> u32
     requires { IsTrue (is_directory_of (bytes_of blob)) }
     ensures { result ≡ team_offset_of (bytes_of blob.entry) }
 {
     if word_at(blob, VERSION) >= CS_SUPPORTSTEAMID {
         word_at(blob, TEAM_OFFSET)
+    } else {
+        0
+    }
+}
+
+// Where the hashes of the code before it was encrypted begin, or 0 if there are none.
+fn pre_encrypt_offset(blob: Bytes) -> u32
+    requires { IsTrue (is_directory_of (bytes_of blob)) }
+    ensures { result ≡ pre_encrypt_offset_of (bytes_of blob.entry) }
+{
+    if word_at(blob, VERSION) >= CS_SUPPORTSRUNTIME {
+        word_at(blob, PRE_ENCRYPT_OFFSET)
+    } else {
+        0
+    }
+}
+
+// Where the linkage begins, or 0 if there is none.
+fn linkage_offset(blob: Bytes) -> u32
+    requires { IsTrue (is_directory_of (bytes_of blob)) }
+    ensures { result ≡ linkage_offset_of (bytes_of blob.entry) }
+{
+    if word_at(blob, VERSION) >= CS_SUPPORTSLINKAGE {
+        word_at(blob, LINKAGE_OFFSET)
+    } else {
+        0
+    }
+}
+
+// How many bytes the linkage has.
+fn linkage_size(blob: Bytes) -> u32
+    requires { IsTrue (is_directory_of (bytes_of blob)) }
+    ensures { result ≡ linkage_size_of (bytes_of blob.entry) }
+{
+    if word_at(blob, VERSION) >= CS_SUPPORTSLINKAGE {
+        word_at(blob, LINKAGE_SIZE)
     } else {
         0
     }
@@ -223,7 +299,7 @@ fn code_limit(blob: Bytes) -> u64
     u64::from(word_at(blob, CODE_LIMIT))
 }
 
-/// Whether a name at this offset of a blob ends in it. There is none at 0.
+/// Whether a name at this offset of a blob ends in it. At 0 no name begins.
 pub fn has_name(blob: Bytes, offset: u32) -> bool
     ensures { IsTrue result ↔ HasName (bytes_of blob.entry) offset }
 {

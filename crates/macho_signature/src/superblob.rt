@@ -146,7 +146,7 @@ pub fn entry_offset(index: u32) -> u64
     CS_SUPER_BLOB_SIZE + u64::from(index) * CS_BLOB_INDEX_SIZE
 }
 
-/// The big-endian field of 32 bits at an offset, of which all bytes are inside.
+/// The big-endian field of 32 bits at an offset, which lies inside.
 pub fn word_at(bytes: Bytes, offset: u64) -> u32
     requires { offset + 4 ≤ length (bytes_of bytes) }
     ensures { result ≡ big_word (bytes_of bytes.entry) offset }

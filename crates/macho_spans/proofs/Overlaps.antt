@@ -1,4 +1,4 @@
--- Spans that share a place, in the order in which they came and in that of their starts.
+-- Spans that share a place, in the order in which they came and in the order of their starts.
 use Rattle.std.proofs.Common.{◌≡◌, ℕ, ◌+◌, ◌<◌, ◌≤◌, ◌⊎◌, false, eqb, List, length, map, get_or, ◌≢◌, sym, ap, ◌∙◌, inl, inr, subst, arith, Contains}
 use Rattle.std.specs.Prelude.{IsPermutation}
 use Rattle.std.specs.List.{IsDistinct}

@@ -83,7 +83,7 @@ module _ (pairs : List (Span × ℕ)) (sorted : AreSorted pairs) where
           | inr later ↦ let past = by.after k x later within in absurd (omega (arith, here.0))
         ]
 
-    -- the last of those that start by the place decides for all
+    -- the last span that starts by the place decides for all
     pub found_before : (answer : Option (Span × ℕ)) (last : ℕ) → next ≡ last + 1
         → ((d : Span × ℕ) → MatchOption answer (¬ Holds (get_or pairs last d).0 place) (λ pair. (pair ≡ get_or pairs last d) × Holds (get_or pairs last d).0 place))
         → MatchOption answer (¬ HoldsInOne pairs place) (λ pair. Contains pairs pair × Holds pair.0 place)

@@ -192,7 +192,7 @@ module _ (spans : List Span) (x : Span) where
           let at : IsFilled spans j = omega (arith, ap (λ s. s.len) same, run.filled) in
           past (span_at spans i) filled (subst (λ a. R a (span_at spans i)) same (run.each j i less at filled)) (run.edge i filled)
 
-  -- One more after others, of which the last that is not empty is known
+  -- One more after others, whose last span that is not empty is known
   module _ (last : Span) (filled : 0 < x.len) where
     filled_last : 0 < last.len → (j : ℕ) × (span_at spans j ≡ last) → (j : ℕ) × (span_at spans j ≡ last) × IsFilled spans j
     filled_last some (j, same) = (j, same, omega (arith, ap (λ s. s.len) same, some))

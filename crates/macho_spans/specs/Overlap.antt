@@ -62,7 +62,7 @@ item_at items p =
 abbrev pub AreNumbered : List Numbered → Type 0
 AreNumbered items = (p : ℕ) → p < length items → (item_at items p).index ≡ p
 
--- the items are those of a list that has these spans, in which each had its own place as its index
+-- the items come from a list of these spans, in which each had its own place as its index
 abbrev pub WereAdded : List Span → List Numbered → Type 0
 WereAdded spans items =
     (added : List Numbered) × (map (λ item. item.span) added ≡ spans) × AreNumbered added

@@ -42,7 +42,7 @@ PairBelow items high count =
     × Shares (item_at items p).span (item_at items q).span
 
 -- Of the first high items, those that have a place and an index below count are passed. They share
--- nothing, and the last place of any of them is below end, which is 0 if there are none.
+-- nothing, and the last place of any of them is below end, which is 0 without any.
 pub record ArePassedBelow (items : List Numbered) (high count end : ℕ) : Type 0 where
   pub ends : (p : ℕ) → p < high → (item_at items p).index < count → 0 < (item_at items p).span.len
       → end_of (item_at items p).span ≤ end

@@ -1,4 +1,4 @@
--- What the order of spans shows of which of them share a place. Each span has a tag, which names it in
+-- What the order of spans shows about spans that share a place. Each span has a tag, which names it in
 -- the answer. Empty spans share nothing.
 use Rattle.std.specs.Prelude.{◌≡◌, ℕ, ◌≤◌, ◌<◌, List, map, slice_get, Some}
 use Rattle.macho_spans.specs.Overlap.{span_at, SharesEarlier, IsLeastSharing, IsAscending, IsDescending, AreMixed}
@@ -28,7 +28,7 @@ IsSharingOf pairs sharing.Unknown =
 
 -- What is kept while spans are noted
 
--- The spans run to the last one: of those that are not empty each is before each later one, and the
+-- The spans run to the last one: each that is not empty is before each later one, and the
 -- last reaches as far as each
 pub record RunsTo (IsBefore IsWithin : Span → Span → Type 0) (spans : List Span) (last : Span)
     : Type 0 where
@@ -54,6 +54,6 @@ IsTrend spans tags last (trend.Sharing tag) =
     (j : ℕ) × IsLeastSharing spans j × (slice_get tags j ≡ Some tag)
 IsTrend spans tags last trend.Unordered = (¬ IsAscending spans) × (¬ IsDescending spans) × ((n : ℕ) × AreMixed spans n)
 
--- the order is that of the spans
+-- the order is the spans'
 abbrev pub IsOrderOf : List (Span × ℕ) → SpanOrder → Type 0
 IsOrderOf pairs noted = IsTrend (spans_in pairs) (tags_in pairs) noted.last noted.trend

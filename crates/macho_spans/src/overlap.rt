@@ -95,7 +95,7 @@ impl SpanList {
     }
 }
 
-/// The spans of a list, sorted by their starts. The list in which they were added is that of the
+/// The spans of a list, sorted by their starts. The list in which they were added is the list of the
 /// [`SpanList`].
 #[derive(Drop)]
 pub struct SpansByStart {
@@ -127,7 +127,7 @@ impl SpansByStart {
         self.items.len()
     }
 
-    /// Whether there are none.
+    /// Whether it is empty.
     pub fn is_empty(&self) -> bool
         ensures { IsTrue result ↔ (sorted_spans self.now ≡ []) }
     {

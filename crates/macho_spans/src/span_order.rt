@@ -1,4 +1,4 @@
-//! What neighbours show of which spans share a place.
+//! What neighbours show about spans that share a place.
 
 use crate::span::Span;
 
@@ -24,7 +24,7 @@ pub struct SpanOrder {
 // In what order the nonempty spans come.
 #[derive(Clone, Copy)]
 enum Trend {
-    // There is none.
+    // No span was added.
     Empty,
     // There is one.
     Single,

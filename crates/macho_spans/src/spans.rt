@@ -18,7 +18,7 @@ pub enum Insert {
     Overlap,
 }
 
-/// Spans of which no two share a place, each with a tag. A place is an address or an offset in
+/// Spans that share no place, each with a tag. A place is an address or an offset in
 /// bytes.
 #[derive(Drop)]
 pub struct Spans {
@@ -94,7 +94,7 @@ impl Spans {
 
     /// Adds the span with its tag, unless it shares a place with a held span. The span must not be
     /// empty, and must end at or before 2^64. An overlap allocates no memory. Otherwise memory is
-    /// allocated only if there is no room, and then for as many more as are held, or for four if
+    /// allocated only if the room is used up, and then for as many more as are held, or for four if
     /// there are fewer. If it runs out, nothing has changed.
     pub fn try_insert(&mut self, span: Span, tag: u64) -> Result<Insert, AllocError>
         requires { IsPlaced span }
@@ -130,7 +130,7 @@ impl Spans {
         Ok(Insert::Added)
     }
 
-    /// The held span that holds the place, with its tag, or `None` if there is none.
+    /// The held span that holds the place, with its tag, or `None` without such a span.
     pub fn find(&mut self, place: u64) -> Option<(Span, u64)>
         ensures found { MatchOption result (¬ HoldsInOne self.old.pairs place)
             (λ pair. Contains self.old.pairs pair × Holds pair.0 place) }

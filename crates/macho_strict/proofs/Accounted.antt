@@ -1,5 +1,5 @@
 -- A file that breaks no rule and no strict rule is accounted for.
-use Rattle.std.proofs.Common.{◌≡◌, ℕ, suc, zero, ◌≤◌, ◌<◌, ◌+◌, ◌⊎◌, List, [], ◌∷◌, length, get_or, slice_get, slice_index, Some, None, All, Any, Contains, false, refl, sym, ap, ◌∙◌, subst, arith, inl, inr}
+use Rattle.std.proofs.Common.{◌≡◌, ℕ, suc, zero, ◌≤◌, ◌<◌, ◌+◌, ◌⊎◌, List, [], ◌∷◌, length, get_or, slice_get, Some, None, All, Any, Contains, false, refl, sym, ap, ◌∙◌, subst, arith, inl, inr}
 use Rattle.std.specs.Prelude.{AllPairs, bit_and}
 use Rattle.std.proofs.lemmas.Bool.{true≢false, cases_lt, cases_eq, cases_order, cases_Bool}
 use Rattle.std.proofs.lemmas.List.{get_or_default}
@@ -8,7 +8,7 @@ use Rattle.std.proofs.lemmas.List.Kept.{AllPairs-filter, AllPairs-from_increasin
 use Rattle.std.proofs.lemmas.Option.{slice_get-get_or, slice_get_within, get_or_from_slice_get}
 use Rattle.macho_fields.specs.First.{IsUnbroken}
 use Rattle.macho_fields.specs.Command.{least_size, name_start}
-use Rattle.macho_fields.specs.Image.{command_cmd, command_size, commands_of, commands_end, Follow, IsChain, AreCommands}
+use Rattle.macho_fields.specs.Image.{cpu_type, command_cmd, command_size, commands_of, commands_end, Follow, IsChain, AreCommands}
 use Rattle.macho_fields.specs.LoadCommands.{structure_of, has_name}
 use Rattle.macho_fields.specs.Loader.{IsSound}
 use Rattle.macho_fields.specs.NonZero.{IsNonZero}
@@ -30,6 +30,7 @@ use Rattle.macho_fields.proofs.Sound.{begins, unbroken_is_sound}
 use Rattle.macho_strict.specs.Accounted.{ExactlyOne, IsAccountedImage, IsAccounted}
 use Rattle.macho_strict.specs.Elements.{elements_of}
 use Rattle.macho_rules.proofs.Profiles.{image_keeps}
+use Rattle.macho_strict.specs.Nops.{is_nop}
 use Rattle.macho_strict.specs.First.{IsStrictlyUnbroken}
 use Rattle.macho_fields.specs.Layers.{NothingBreaks}
 use Rattle.macho_strict.specs.Rules.{IsByteOfSegment, all_segments, BreaksStrictFile, BreaksStrictImage, IsInName, IsSlack, IsNop}
@@ -140,7 +141,7 @@ module _ (image : List ℕ) (are : AreCommands image (commands_of image)) (keeps
       none_of_any (k, e, less, at, held) none = none k e less (subst (λ (x : Element). Holds x.span place) (sym at) held)
 
       nop_or_not : (segment : ℕ) → IsNop image place segment ⊎ ¬ IsNop image place segment
-      nop_or_not segment = both_or_not (elim (cases_eq (slice_index image place) 0x90) [ inl same ↦ inl same | inr other ↦ inr other ])
+      nop_or_not segment = both_or_not (elim (cases_Bool (is_nop (cpu_type image) image place)) [ inl is ↦ inl is | inr other ↦ inr (λ nop. true≢false (sym nop ∙ other)) ])
           (elim (cases_eq (bit_and (initprot image segment) vm_prot.VM_PROT_EXECUTE) 0) [ inl none ↦ inr (λ some. some none) | inr some ↦ inl some ])
 
   -- one in the headers lies in the header, or in exactly one command

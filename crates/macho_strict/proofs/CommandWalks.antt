@@ -35,7 +35,7 @@ pub record AreSeen (image : List ℕ) (left : List CommandView) (noted : Noted) 
   pub all : seen ++ elements_left image left ≡ elements_of image
   pub are : AreNoted image seen noted
 
--- what is noted of an image's commands, of which these are left
+-- what is noted of an image's commands, while these are left
 pub record AreNotedTo (image : List ℕ) (all left : List CommandView) (noted : NotedCommands) : Type 0 where
   pub listed : All (IsCommandOf image) left
   pub end : AreLeft image noted.end left

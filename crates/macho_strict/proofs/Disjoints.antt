@@ -1,9 +1,9 @@
--- Spans of which no two share a place.
-use Rattle.std.proofs.Common.{◌≡◌, ℕ, ◌<◌, Bool, true, false, max, min, List, length, map, filter, get_or, slice_index, Contains, sym, ◌∙◌, subst, arith, inl, inr}
+-- Spans that share no place.
+use Rattle.std.proofs.Common.{◌≡◌, ℕ, ◌<◌, Bool, true, false, max, min, List, length, map, filter, get_or, Contains, sym, ◌∙◌, subst, arith, inl, inr}
 use Rattle.std.specs.List.{AllPairs, IsDistinct}
 use Rattle.std.specs.List.Sorted.{IsNonDecreasingBy}
 use Rattle.std.specs.Prelude.{IsPermutation}
-use Rattle.std.proofs.lemmas.Bool.{cases_Bool, ltb-true}
+use Rattle.std.proofs.lemmas.Bool.{true≢false, cases_Bool, ltb-true}
 use Rattle.std.proofs.lemmas.List.{get_or_default, get_or-map, length-map}
 use Rattle.std.proofs.lemmas.List.Elements.{filter_passes}
 use Rattle.std.proofs.lemmas.List.Kept.{AllPairs-filter}
@@ -15,6 +15,7 @@ use Rattle.macho_spans.specs.declared.span.Span.{Span}
 use Rattle.macho_strict.specs.Passed.{occupied}
 use Rattle.macho_strict.specs.Disjoint.{AreDisjoint}
 use Rattle.macho_strict.specs.Gaps.{IsFree, IsUnpadded}
+use Rattle.macho_strict.specs.Nops.{is_nop}
 use Rattle.macho_strict.proofs.Occupied.{has_place, share, share_flips, ascending_distinct}
 use Rattle.macho_strict.proofs.Passed.{no_span}
 
@@ -24,8 +25,8 @@ pub held_not_free : (spans : List Span) (span : Span) (p : ℕ) → Contains spa
 held_not_free spans span p (k, less, at) held free = free k (subst (λ (s : Span). Holds s p) (sym (get_or_default spans k no_span span less ∙ at)) held)
 
 -- a NOP of the code is padding
-pub padded : (code : List Span) (bytes : List ℕ) (p : ℕ) (part : Span) → Contains code part → Holds part p → slice_index bytes p ≡ 0x90 → ¬ IsUnpadded code bytes p
-padded code bytes p part has held nop (is, either) = elim either [ inl other ↦ other nop | inr free ↦ held_not_free code part p has held free ]
+pub padded : (cpu : ℕ) (code : List Span) (bytes : List ℕ) (p : ℕ) (part : Span) → Contains code part → Holds part p → is_nop cpu bytes p ≡ true → ¬ IsUnpadded cpu code bytes p
+padded cpu code bytes p part has held nop (is, either) = elim either [ inl other ↦ true≢false (sym nop ∙ other) | inr free ↦ held_not_free code part p has held free ]
 
 -- Where no two share a place
 
@@ -52,7 +53,7 @@ disjoint_sorted spans sorted moved rising none i j less within =
     let filled = All-permutation (λ span. has_place span ≡ true) (occupied spans) sorted moved (filter_passes has_place spans) in
     ascending_distinct sorted rising distinct i j less (ltb-true 0 (span_at sorted i).len (filled i no_span (omega arith))) (ltb-true 0 (span_at sorted j).len (filled j no_span within))
 
--- and no two of those that pass a test share one
+-- and no two that pass a test share one
 pub none_share_filtered : (part : ℕ → Span) (test : ℕ → Bool) (items : List ℕ) → ((j : ℕ) → ¬ SharesEarlier (map part items) j) → (j : ℕ) → ¬ SharesEarlier (map part (filter test items)) j
 none_share_filtered part test items none j (within, (i, less, shares)) =
     let inside : j < length (filter test items) = omega (arith, within, length-map (filter test items) part) in

@@ -29,7 +29,7 @@ use Rattle.macho_strict.specs.declared.elements.Element.{Element}
 
 -- Tables
 
--- the size of a table of so many items has 64 bits, where that of one with the most items has
+-- the size of a table of so many items has 64 bits, where the size of one with the most items has
 pub size_fits : (count bound size : ℕ) → count < bound → (bound - 1) * size < 2 ^ 64 → Fits w64 (count * size)
 size_fits count bound size few all = let most : count * size ≤ (bound - 1) * size = mul-le-mul_right size (omega arith) in omega arith
 
@@ -97,7 +97,7 @@ sections_more elements seen s =
 
 -- Commands
 
--- what a command describes that is no segment
+-- what a command describes that is not a segment
 pub other_elements : (image : List ℕ) (command : ℕ) → (command_cmd image command == loader.LC_SEGMENT_64) ≡ false
     → command_elements image command ≡ tables_left image command (described_tables (command_cmd image command) (command_size image command))
 other_elements image command not_segment = rw not_segment refl

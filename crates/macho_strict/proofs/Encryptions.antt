@@ -87,7 +87,7 @@ module _ (image : List ℕ) (all : List CommandView) (opened : IsOpened image) (
       (λ p has here. (listed_at p has here.0, here.1))
       (λ p broken. (p, with_cmd_among image (commands_of image) loader.LC_ENCRYPTION_INFO_64 p broken.0, (with_cmd_is image (commands_of image) loader.LC_ENCRYPTION_INFO_64 p broken.0, broken.1), refl)))
 
--- the bytes of a range are those of a segment, where its file part has them
+-- the bytes of a range are the bytes of a segment, where its file part has them
 module _ (image : List ℕ) (range : Span) where
   abbrev part_at : ℕ → Span
   part_at segment = record { start = fileoff image segment; len = filesize image segment }

@@ -122,7 +122,7 @@ module _ (spans sorted : List Span) (moved : IsPermutation (occupied spans) sort
       let filled : AreFilled sorted = All-permutation (λ span. has_place span ≡ true) (occupied spans) sorted moved (filter_passes has_place spans) in
       none_shares spans (distinct_apart (occupied spans) (IsDistinct-IsPermutation share share_flips sorted (occupied spans) (IsPermutation-sym (occupied spans) sorted moved) (distinct_ascending sorted filled up)))
 
-  -- and they do in that of their starts, where all ascend
+  -- and they do in the order of their starts, where all ascend
   pub ascending_moved : IsNonDecreasingBy (λ span. span.start) sorted → IsAscending spans → IsAscending sorted
   ascending_moved rising up =
       ascending_distinct sorted rising (IsDistinct-IsPermutation share share_flips (occupied spans) sorted moved (distinct_ascending (occupied spans) (filter_passes has_place spans) (ascending_occupied spans up)))
@@ -150,7 +150,7 @@ cover_trans a b c first second place = (λ free. (second place).0 ((first place)
 pub cover_listed : (spans list others : List Span) → list ≡ occupied spans → IsPermutation list others → CoverSame spans others
 cover_listed spans list others are moved = cover_trans spans list others (subst (CoverSame spans) (sym are) (cover_same spans)) (cover_moved list others moved)
 
--- the least place that was found between spans is that of all that have the same places, of whatever bytes they are
+-- the least place that was found between spans is the least of all that have the same places, whatever bytes they are
 pub least_covered : (wanted : Wanted) (bytes own : List ℕ) (spans list sorted : List Span) (found : Option ℕ) → own ≡ bytes → list ≡ spans → CoverSame list sorted
     → IsLeastPlace (IsStray wanted own sorted) found → IsLeastPlace (IsStray wanted bytes spans) found
 least_covered wanted bytes own spans list sorted found same are cover least =

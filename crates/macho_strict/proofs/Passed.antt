@@ -24,7 +24,7 @@ no_span = record { start = 0; len = 0 }
 pub covers_or_not : (start len place : ℕ) → Covers start len place ⊎ ¬ Covers start len place
 covers_or_not start len place = both_or_not (le_or_not start place) (elim (cases_lt place (start + len)) [ inl less ↦ inl less | inr past ↦ inr (λ less. absurd (omega arith)) ])
 
--- a least place of one of two predicates, of which the second is decided where the first has none
+-- a least place of one of two predicates, where the second is decided if the first has none
 pub least_of_two : (First Next All : ℕ → Type 0) (old new : Option ℕ) → IsLeastPlace First old
     → MatchOption old (IsLeastPlace Next new) (λ place. new ≡ Some place)
     → ((p : ℕ) → First p → All p) → ((p : ℕ) → Next p → All p) → ((p : ℕ) → All p → First p ⊎ Next p)
@@ -318,7 +318,7 @@ inside_shown wanted bytes spans gaps are set inside test = (shown, found)
 -- a byte that is looked for is one of them
 wanted_inside : (wanted : Wanted) (bytes : List ℕ) (p : ℕ) → IsWanted wanted bytes p → p < length bytes
 wanted_inside wanted.NonZero bytes p is = is.0
-wanted_inside (wanted.Unpadded code) bytes p (is, other) = is.0
+wanted_inside (wanted.Unpadded cpu code) bytes p (is, other) = is.0
 
 -- the least one in none of them, if what was found before all of them ended is followed by the bytes up to the last
 pub least_of_all : (wanted : Wanted) (bytes : List ℕ) (spans : List Span) (gaps : Gaps) → ArePassed wanted bytes spans gaps → gaps.by_start ≡ true → (limit : ℕ) → limit ≡ length (bytes_of gaps.bytes)
@@ -347,7 +347,7 @@ ascending_apart spans up j (within, (i, less, (place, here, there))) =
 pub sorted_by_start : (spans : List Span) → IsNonDecreasingBy (λ s. s.start) spans → ComeByStart spans
 sorted_by_start spans sorted i j less filled_i filled_j = sorted i j no_span (omega arith) (among spans j filled_j)
 
--- a place in none of some spans is in none of those among them
+-- a place in none of some spans is in none among them
 pub free_among : (spans others : List Span) (p : ℕ) → ((x : Span) → Contains others x → Contains spans x) → ((i : ℕ) → ¬ Holds (span_at spans i) p) → (i : ℕ) → ¬ Holds (span_at others i) p
 free_among spans others p has free i held =
     let less = among others i (omega (arith, held.0, held.1)) in

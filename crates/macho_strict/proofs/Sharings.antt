@@ -58,7 +58,7 @@ module _ {X : Type 0} (all given : List X) (is : given ≡ all) where
       → YieldsFirst (λ (these : List X). these) left next rest → next ≡ None → yielded ≡ all
   all_yielded yielded left rest next came steps ended = let (same, _) = YieldsList-end road yielded left came next rest ended steps in sym (map-id yielded) ∙ same
 
--- the spans of those that were drained are those of all
+-- the spans that were drained are all spans
 pub drained_spans : (all given : List Element) → given ≡ all → (spans : List Span) (xs : List Element) → Drains (YieldsFirst (λ (left : List Element). left)) given xs → spans ≡ map span_of xs → spans ≡ map span_of all
 drained_spans all given is spans xs ran are = are ∙ ap (map span_of) (drained all given is xs ran)
 

@@ -204,7 +204,7 @@ module _ (image : List ℕ) (opened : IsOpened image) (all : List CommandView) (
               omega (arith, apart, here.1.0.1, slack.1.0.0)
         ]
 
-  -- where all were passed, there is none
+  -- where all were passed, no command has slack
   pub slack_ended : (left : List CommandView) → left ≡ [] → Searching (λ w. w.place) (HasSlack image) all left → (p : ℕ) → ¬ BreaksStrictImage image rule.CommandSlack p
   slack_ended left is search p (broken, any) =
       let (command, has, slack) = one_of (IsSlack image p) (commands_of image) any in

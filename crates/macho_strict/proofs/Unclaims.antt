@@ -1,10 +1,11 @@
 -- The bytes of segments that lie in no element.
-use Rattle.std.proofs.Common.{◌≡◌, ◌≢◌, ◌⊎◌, ◌<◌, ℕ, List, [], ◌∷◌, ◌++◌, map, filter, get_or, slice_index, Any, All, true, false, Contains, Option, None, Some, refl, sym, ap, ◌∙◌, arith, inl, inr}
+use Rattle.std.proofs.Common.{◌≡◌, ◌≢◌, ◌⊎◌, ◌<◌, ℕ, List, [], ◌∷◌, ◌++◌, map, filter, get_or, Any, All, true, false, Contains, Option, None, Some, refl, sym, ap, ◌∙◌, arith, inl, inr}
 use Rattle.std.specs.Prelude.{bit_and}
-use Rattle.std.proofs.lemmas.Bool.{true≢false, cases_Bool, cases_eq, cases_order, ltb-true, ltb-false}
+use Rattle.std.proofs.lemmas.Bool.{true≢false, cases_Bool, cases_order, ltb-true, ltb-false}
 use Rattle.std.proofs.lemmas.List.{append-nil, map-append}
 use Rattle.std.proofs.lemmas.List.Elements.{Contains-get_or, All-contains, filter-append, filter_passes}
 use Rattle.macho_fields.specs.FirstPlace.{IsLeastPlace}
+use Rattle.macho_fields.specs.Image.{cpu_type}
 use Rattle.macho_fields.specs.NonZero.{IsNonZero}
 use Rattle.macho_fields.specs.Segment.{fileoff, filesize, initprot}
 use Rattle.macho_fields.specs.declared.header.vm_prot.TheConstants as vm_prot
@@ -16,6 +17,7 @@ use Rattle.macho_spans.specs.declared.span.Span.{Span}
 use Rattle.macho_strict.specs.Elements.{elements_of}
 use Rattle.macho_strict.specs.Passed.{occupied, CoverSame}
 use Rattle.macho_strict.specs.Gaps.{IsFree, IsStray, IsUnpadded}
+use Rattle.macho_strict.specs.Nops.{is_nop}
 use Rattle.macho_strict.specs.Rules.{BreaksStrictImage, IsByteOfSegment, IsNop, all_segments}
 use Rattle.macho_rules.proofs.Mapped.{filtered}
 use Rattle.macho_rules.proofs.Searches.{unfiltered}
@@ -59,7 +61,7 @@ module _ (image : List ℕ) where
     | inr f ↦ let most = ltb-false 0 (bit_and (initprot image s) vm_prot.VM_PROT_EXECUTE) f in absurd (some (omega arith))
   ]
 
-  is_code_false : (p s : ℕ) → slice_index image p ≡ 0x90 → ¬ IsNop image p s → is_code image s ≡ false
+  is_code_false : (p s : ℕ) → is_nop (cpu_type image) image p ≡ true → ¬ IsNop image p s → is_code image s ≡ false
   is_code_false p s byte not = elim (cases_Bool (is_code image s)) [
     | inl t ↦ let some = ltb-true 0 (bit_and (initprot image s) vm_prot.VM_PROT_EXECUTE) t in absurd (not (byte, λ none. absurd (omega arith)))
     | inr f ↦ f
@@ -85,26 +87,26 @@ module _ (image : List ℕ) where
     -- a byte in no element, and in no segment that may be executed where it is a NOP
     module _ (code : List Span) (same : CoverSame (code_parts image) code) where
       abbrev IsBare : ℕ → Type 0
-      IsBare p = IsUnpadded code image p × IsFree (element_spans image) p
+      IsBare p = IsUnpadded (cpu_type image) code image p × IsFree (element_spans image) p
 
       bare_unclaimed : (p : ℕ) → IsBare p → IsUnclaimed p
       bare_unclaimed p ((is, unpadded), free) =
           let (k, s, less, at, held) = in_segment p is in
           (is, (k, s, less, at, (held, no_nop s (k, less, at) held unpadded)), of_free p free)
         where
-          no_nop : (s : ℕ) → Contains (all_segments image) s → IsByteOfSegment image s p → (slice_index image p ≢ 0x90) ⊎ IsFree code p → ¬ IsNop image p s
-          no_nop s has held (inl other) nop = other nop.0
+          no_nop : (s : ℕ) → Contains (all_segments image) s → IsByteOfSegment image s p → (is_nop (cpu_type image) image p ≡ false) ⊎ IsFree code p → ¬ IsNop image p s
+          no_nop s has held (inl other) nop = true≢false (sym nop.0 ∙ other)
           no_nop s has held (inr outside) nop =
               All-contains (λ segment. ¬ Holds (part_of image segment) p) (filter (is_code image) (all_segments image)) s (all_of_free (part_of image) (filter (is_code image) (all_segments image)) p ((same p).1 outside))
               (code_has s has (is_code_true s nop.1)) held
 
       unclaimed_bare : (p : ℕ) → IsUnclaimed p → IsBare p
-      unclaimed_bare p (is, (k, s, less, at, (held, not_nop)), none) = elim (cases_eq (slice_index image p) 0x90) [
+      unclaimed_bare p (is, (k, s, less, at, (held, not_nop)), none) = elim (cases_Bool (is_nop (cpu_type image) image p)) [
         | inr differs ↦ ((is, inl differs), free_of p none)
         | inl nop ↦ ((is, inr ((same p).0 (free_of_all (part_of image) (filter (is_code image) (all_segments image)) 0 p (outside nop)))), free_of p none)
       ]
         where
-          outside : slice_index image p ≡ 0x90 → All (λ segment. ¬ Holds (part_of image segment) p) (filter (is_code image) (all_segments image))
+          outside : is_nop (cpu_type image) image p ≡ true → All (λ segment. ¬ Holds (part_of image segment) p) (filter (is_code image) (all_segments image))
           outside nop = λ j d below there.
               let t = get_or (filter (is_code image) (all_segments image)) j d in
               let has : Contains (filter (is_code image) (all_segments image)) t = Contains-get_or (filter (is_code image) (all_segments image)) j d below in
@@ -115,10 +117,10 @@ module _ (image : List ℕ) where
       least_unpadded found least = least_same IsBare IsUnclaimed bare_unclaimed unclaimed_bare found least
 
     -- the first byte in no element, if it is not a NOP
-    pub first_loose : (p : ℕ) → slice_index image p ≢ 0x90 → IsLeastPlace IsLoose (Some p) → IsLeastPlace IsUnclaimed (Some p)
+    pub first_loose : (p : ℕ) → is_nop (cpu_type image) image p ≡ false → IsLeastPlace IsLoose (Some p) → IsLeastPlace IsUnclaimed (Some p)
     first_loose p other ((is, free), least) =
         let (k, s, less, at, held) = in_segment p is in
-        ((is, (k, s, less, at, (held, λ nop. other nop.0)), of_free p free), λ q unclaimed. least q (loose_of q unclaimed))
+        ((is, (k, s, less, at, (held, λ nop. true≢false (sym nop.0 ∙ other))), of_free p free), λ q unclaimed. least q (loose_of q unclaimed))
 
 -- One segment more. Its bytes are added only if it may be executed and has some.
 

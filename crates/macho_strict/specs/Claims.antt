@@ -14,7 +14,7 @@ use Rattle.macho_strict.specs.declared.claims.Noted.TheVariants as noted
 use Rattle.macho_strict.specs.declared.elements.Element.{Element}
 use Rattle.macho_strict.specs.declared.gaps.Wanted.TheVariants as wanted
 
--- the lesser of two numbers, of which either may be missing
+-- the lesser of two numbers, either of them possibly missing
 abbrev pub least_option : Option ℕ → Option ℕ → Option ℕ
 least_option (Some a) (Some b) = Some (min a b)
 least_option (Some a) None = Some a
@@ -27,7 +27,7 @@ AreCounted image spans counted =
     ArePassed wanted.NonZero image spans counted.gaps
     × (counted.count ≡ min (length (occupied spans)) (2 ^ 64 - 1))
 
--- what was noted of these elements
+-- what was noted about the elements
 abbrev pub AreNoted : List ℕ → List Element → Noted → Type 0
 AreNoted image elements (noted.Listed list) =
     list.spans ≡ occupied (map (λ element. element.span) elements)

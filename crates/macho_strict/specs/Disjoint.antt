@@ -1,4 +1,4 @@
--- Spans by their starts, of which no two share a place.
+-- Spans by their starts, which share no place.
 use Rattle.std.specs.Prelude.{◌≡◌, ℕ, ◌≤◌, ◌<◌, List, length, Option, None, Some, Contains}
 use Rattle.macho_spans.specs.Overlap.{span_at}
 use Rattle.macho_spans.specs.Span.{end_of, Holds}

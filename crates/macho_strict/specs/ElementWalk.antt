@@ -18,7 +18,7 @@ tables_left image command tables =
 abbrev pub section_elements_left : List SectionView → List Element
 section_elements_left sections = flat_map (λ s. section_elements s.image s.place) sections
 
--- what a command describes that remains: an element that is next, those of its sections and its tables
+-- what a command describes that remains: an element that is next, and the elements of its sections and its tables
 abbrev pub described_left : Option Element → Option (List SectionView) → List Element → List Element
 described_left pending sections tables =
     option_to_list pending ++ (option_map_or section_elements_left sections [] ++ tables)

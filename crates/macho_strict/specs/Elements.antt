@@ -41,7 +41,7 @@ abbrev pub table_element : ℕ → ℕ × ℕ × ℕ → Element
 table_element command table = element command table.0 (table.1 * table.2)
 
 -- The tables of a command that are elements, by its cmd and its size. The range of an
--- LC_ENCRYPTION_INFO_64 is none: it covers what sections have. A command that is not judged has its
+-- LC_ENCRYPTION_INFO_64 is not one: it covers what sections have. A command that is not judged has its
 -- table if it is as long as its structure.
 abbrev pub described_tables : ℕ → ℕ → List TableFields
 described_tables cmd size =
@@ -49,7 +49,7 @@ described_tables cmd size =
     else option_map_or table_fields (structure_of cmd)
     (if nat_lt size loader.LINKEDIT_DATA_COMMAND_SIZE then [] else unlisted_tables cmd)
 
--- The elements that a command describes: of a segment those of its sections, of any other command its
+-- The elements that a command describes: of a segment its sections, of any other command its
 -- tables.
 abbrev pub command_elements : List ℕ → ℕ → List Element
 command_elements image command =

@@ -1,11 +1,12 @@
 -- What a walk over spans that come by their starts finds between them.
-use Rattle.std.specs.Prelude.{◌≡◌, ◌≢◌, ◌↔◌, ℕ, ◌≤◌, ◌<◌, ◌⊎◌, List, length, slice_index, true, false, Option, Some, MatchOption, IsTrue}
+use Rattle.std.specs.Prelude.{◌≡◌, ◌↔◌, ℕ, ◌≤◌, ◌<◌, ◌⊎◌, List, length, true, false, Option, Some, MatchOption, IsTrue}
 use Rattle.macho_fields.specs.Bytes.{bytes_of}
 use Rattle.macho_fields.specs.FirstPlace.{IsLeastPlace}
 use Rattle.macho_fields.specs.NonZero.{IsNonZero}
 use Rattle.macho_spans.specs.Overlap.{span_at, IsAscending}
 use Rattle.macho_spans.specs.Span.{end_of, Holds}
 use Rattle.macho_spans.specs.declared.span.Span.{Span}
+use Rattle.macho_strict.specs.Nops.{is_nop}
 use Rattle.macho_strict.specs.declared.gaps.Gaps.{Gaps}
 use Rattle.macho_strict.specs.declared.gaps.Wanted.{Wanted}
 use Rattle.macho_strict.specs.declared.gaps.Wanted.TheVariants as wanted
@@ -14,15 +15,15 @@ use Rattle.macho_strict.specs.declared.gaps.Wanted.TheVariants as wanted
 abbrev pub IsFree : List Span → ℕ → Type 0
 IsFree spans place = (i : ℕ) → ¬ Holds (span_at spans i) place
 
--- the place has a byte that is neither zero nor a NOP of the code
-abbrev pub IsUnpadded : List Span → List ℕ → ℕ → Type 0
-IsUnpadded code bytes place =
-    IsNonZero bytes place × ((slice_index bytes place ≢ 0x90) ⊎ IsFree code place)
+-- the place has a byte that is neither zero nor a NOP of the code, by the processor of that
+abbrev pub IsUnpadded : ℕ → List Span → List ℕ → ℕ → Type 0
+IsUnpadded cpu code bytes place =
+    IsNonZero bytes place × ((is_nop cpu bytes place ≡ false) ⊎ IsFree code place)
 
 -- the place has a byte of the kind that is looked for
 abbrev pub IsWanted : Wanted → List ℕ → ℕ → Type 0
 IsWanted wanted.NonZero bytes place = IsNonZero bytes place
-IsWanted (wanted.Unpadded code) bytes place = IsUnpadded code.now bytes place
+IsWanted (wanted.Unpadded cpu code) bytes place = IsUnpadded cpu code.now bytes place
 
 -- the place has such a byte, and lies in none of the spans
 abbrev pub IsStray : Wanted → List ℕ → List Span → ℕ → Type 0
@@ -41,7 +42,7 @@ AreInside bytes spans =
 
 -- What is kept while spans are passed
 
--- the last span that is not empty begins at `start`, and of those that are not empty the furthest ends
+-- the last span that is not empty begins at `start`, and the furthest that is not empty ends
 -- at `end`, with no gap between the two
 pub record Walked (wanted : Wanted) (bytes : List ℕ) (spans : List Span) (start end : ℕ) (stray : Option ℕ) : Type 0 where
   pub last : (start ≡ 0) ⊎ ((j : ℕ) × (0 < (span_at spans j).len) × ((span_at spans j).start ≡ start))
@@ -59,7 +60,7 @@ pub record ArePassed (wanted : Wanted) (bytes : List ℕ) (spans : List Span) (g
   pub ascending : IsTrue gaps.ascend ↔ IsAscending spans
   pub walked : gaps.by_start ≡ true → Walked wanted bytes spans gaps.start gaps.end gaps.stray
 
--- the least place of those from `start` on and before `end` that has such a byte
+-- the least place from `start` on and before `end` that has such a byte
 abbrev pub IsLeastWithin : Wanted → List ℕ → ℕ → ℕ → Option ℕ → Type 0
 IsLeastWithin wanted bytes start end found =
     IsLeastPlace (λ place. (start ≤ place) × (place < end) × IsWanted wanted bytes place) found

@@ -1,5 +1,6 @@
 pub mod Elements
 pub mod ElementWalk
+pub mod Nops
 pub mod Rules
 pub mod Sharing
 pub mod First

@@ -26,18 +26,18 @@ pub record ArePassedFor (image : List ℕ) (spans : List Span) (gaps : Gaps) : T
   -- and they do if they ascend in their own
   pub ascend : IsAscending spans → IsAscending ordered
 
--- the items are those of the spans that have a place, sorted by their starts
+-- the items belong to the spans that have a place, sorted by their starts
 abbrev pub IsSortedOf : List Span → List Numbered → Type 0
 IsSortedOf spans items =
     IsPermutation (occupied spans) (sorted_spans items)
     × IsNonDecreasingBy (λ span. span.start) (sorted_spans items)
 
--- so are these, or where there are none all spans come by their starts
+-- so are these, or without them all spans come by their starts
 abbrev pub IsByStart : List Span → Option (List Numbered) → Type 0
 IsByStart spans None = ComeByStart spans
 IsByStart spans (Some items) = IsSortedOf spans items
 
--- The gaps are those between the spans of an image. These were passed sorted, or where there is no such
+-- The gaps are between the spans of an image. These were passed sorted, or without such a
 -- list in their order.
 abbrev pub ArePassedBy : List ℕ → List Span → Gaps → Option (List Numbered) → Type 0
 ArePassedBy image spans gaps None = ArePassed wanted.NonZero image spans gaps

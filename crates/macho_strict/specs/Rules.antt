@@ -1,10 +1,10 @@
 -- Where each strict rule is broken, by a file that breaks no other rule: the rule, and the place that
 -- is reported. docs/rules/strict.md says the same in words.
-use Rattle.std.specs.Prelude.{◌≡◌, ◌≢◌, ℕ, ◌+◌, ◌≤◌, ◌<◌, ◌⊎◌, List, length, slice_get, slice_index, Some, true, All, Any, Contains, bit_and}
+use Rattle.std.specs.Prelude.{◌≡◌, ◌≢◌, ℕ, ◌+◌, ◌≤◌, ◌<◌, ◌⊎◌, List, length, slice_get, Some, true, All, Any, Contains, bit_and}
 use Rattle.macho_spans.specs.Span.{Covers, Holds, Shares, end_of}
 use Rattle.macho_fields.specs.Command.{HasStructure, least_size, name_start}
 use Rattle.macho_fields.specs.Field.{HasZero}
-use Rattle.macho_fields.specs.Image.{command_size, commands_of, commands_end, with_cmd, IsChain}
+use Rattle.macho_fields.specs.Image.{cpu_type, command_size, commands_of, commands_end, with_cmd, IsChain}
 use Rattle.macho_fields.specs.LoadCommands.{has_name, encrypted_table}
 use Rattle.macho_fields.specs.NonZero.{IsNonZero}
 use Rattle.macho_fields.specs.Segment.{fileoff, filesize, vmsize, initprot}
@@ -12,6 +12,7 @@ pub use Rattle.macho_fields.specs.Segment.{all_segments}
 use Rattle.macho_fields.specs.Symbol.{table_place, item_count}
 use Rattle.macho_fields.specs.Universal.{IsUniversal, table_end, slices_of, HasPlace}
 use Rattle.macho_strict.specs.Elements.{elements_of}
+use Rattle.macho_strict.specs.Nops.{is_nop}
 use Rattle.macho_strict.specs.declared.elements.Element.{Element}
 use Rattle.macho_fields.specs.declared.header.loader.TheConstants as loader
 use Rattle.macho_fields.specs.declared.header.vm_prot.TheConstants as vm_prot
@@ -36,7 +37,7 @@ HoldsHeaders image segment =
     (fileoff image segment ≡ 0) × (commands_end image ≤ filesize image segment)
     × (0 < vmsize image segment)
 
--- a place is in the file part of the segment and in that of an earlier one
+-- a place is in the file part of the segment and in the file part of an earlier one
 abbrev pub SharesFilePart : List ℕ → ℕ → Type 0
 SharesFilePart image segment =
     Any (λ earlier. (earlier < segment)
@@ -99,10 +100,10 @@ IsSlack image place command =
     (command + least_size image command structure ≤ place)
     × ¬ IsInName image command structure place)
 
--- a NOP: 0x90 in a segment whose initprot allows execution
+-- a byte of a NOP of the image's processor, in a segment whose initprot allows execution
 abbrev pub IsNop : List ℕ → ℕ → ℕ → Type 0
 IsNop image place segment =
-    (slice_index image place ≡ 0x90)
+    (is_nop (cpu_type image) image place ≡ true)
     × (bit_and (initprot image segment) vm_prot.VM_PROT_EXECUTE ≢ 0)
 
 -- the image breaks the rule at the place. Its commands are a chain, since it breaks no other rule

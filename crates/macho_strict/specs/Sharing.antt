@@ -13,7 +13,7 @@ use Rattle.macho_strict.specs.declared.elements.Element.{Element}
 abbrev pub file_part : List ℕ → ℕ → Element
 file_part image segment = element segment (fileoff image segment) (filesize image segment)
 
--- those of all segments of an image, in the order of the commands
+-- the file parts of all segments of an image, in the order of the commands
 abbrev pub all_parts : List ℕ → List Element
 all_parts image = map (file_part image) (all_segments image)
 

@@ -10,11 +10,11 @@ use Rattle.macho_strict.specs.Sharing.{file_part}
 abbrev pub is_code : List ℕ → ℕ → Bool
 is_code image segment = nat_lt 0 (bit_and (initprot image segment) vm_prot.VM_PROT_EXECUTE)
 
--- the bytes of these segments that may be executed
+-- the bytes of the segments that may be executed
 abbrev pub code_among : List ℕ → List ℕ → List Span
 code_among image segments =
     map (λ segment. (file_part image segment).span) (filter (is_code image) segments)
 
--- those of all segments
+-- the code among all segments
 abbrev pub code_parts : List ℕ → List Span
 code_parts image = code_among image (all_segments image)

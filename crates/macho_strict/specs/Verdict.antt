@@ -1,8 +1,8 @@
 -- The strict verdict on a file, and where it takes memory.
-use Rattle.std.specs.Prelude.{◌≡◌, ℕ, suc, zero, ◌<◌, ◌⊎◌, List, map, slice_index, Any}
+use Rattle.std.specs.Prelude.{◌≡◌, ℕ, suc, zero, ◌<◌, ◌⊎◌, List, map, true, Any}
 use Rattle.macho_fields.specs.First.{IsUnbroken, IsFirstBroken}
 use Rattle.macho_spans.specs.Overlap.{IsAscending}
-use Rattle.macho_fields.specs.Image.{commands_of, with_cmd}
+use Rattle.macho_fields.specs.Image.{cpu_type, commands_of, with_cmd}
 use Rattle.macho_fields.specs.Segment.{fileoff, filesize}
 use Rattle.macho_fields.specs.Universal.{slices_of}
 use Rattle.macho_fields.specs.declared.header.loader.TheConstants as loader
@@ -14,6 +14,7 @@ use Rattle.macho_rules.specs.declared.refusal.Refusal.TheVariants as refusal
 use Rattle.macho_strict.specs.Elements.{elements_of}
 use Rattle.macho_strict.specs.First.{IsFirstStrictlyBroken}
 use Rattle.macho_strict.specs.Gaps.{IsFree}
+use Rattle.macho_strict.specs.Nops.{is_nop}
 use Rattle.macho_strict.specs.Rules.{all_segments, cryptsize}
 
 -- the places of the slices of a file, in table order
@@ -36,10 +37,10 @@ HasEncrypted image =
     Any (λ command. 0 < cryptsize image command)
     (with_cmd image loader.LC_ENCRYPTION_INFO_64 (commands_of image))
 
--- a byte 0x90 lies in no element
+-- a byte of a NOP lies in no element
 abbrev pub HasLooseNop : List ℕ → Type 0
 HasLooseNop image =
-    (place : ℕ) × (slice_index image place ≡ 0x90) × IsFree (element_spans image) place
+    (place : ℕ) × (is_nop (cpu_type image) image place ≡ true) × IsFree (element_spans image) place
 
 -- The file parts of an image do not ascend, or its elements do not; or it has an encrypted range, or a
 -- NOP in no element.
@@ -54,12 +55,12 @@ TakesMemoryIn file zero = ¬ IsAscending (slice_spans file)
 TakesMemoryIn file (suc k) = TakesInSlice TakesMemory file (suc k)
 
 -- The strict verdict on a file takes memory: that by the rules of the layout does, or the file breaks
--- none of these, and a scope takes some.
+-- none of them, and a scope takes some.
 abbrev pub StrictlyTakesMemory : List ℕ → Type 0
 StrictlyTakesMemory file =
     FileTakesMemory file ⊎ (IsUnbroken file × ((scope : ℕ) × TakesMemoryIn file scope))
 
--- A refusal is the first broken rule of the layout, or where none of these is broken the first broken
+-- A refusal is the first broken rule of the layout, or where none is broken the first broken
 -- strict rule, or that there was no memory, which is reported only if the verdict takes some.
 abbrev pub IsStrictRefusal : List ℕ → Refusal → Type 0
 IsStrictRefusal file (refusal.Broken b) =

@@ -35,7 +35,7 @@ pub(crate) fn pass_sorted(bytes: Bytes, list: SpanList) -> Passed
     }
 }
 
-// The spans of those elements that have bytes, in their order. The memory for `count` of them is
+// The spans of the elements that have bytes, in their order. The memory for `count` of them is
 // allocated at once.
 pub(crate) fn occupied_list<I: Iterator<Item = Element>>(
     alloc: Global,

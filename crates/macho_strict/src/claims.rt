@@ -28,7 +28,7 @@ const ROOM: usize = 32;
 // What one walk over the elements of an image notes.
 #[derive(Drop)]
 pub(crate) enum Noted<'a> {
-    // The bytes of those that have some, if the elements are few.
+    // The bytes of the elements that have some, if the elements are few.
     Listed(SpanList),
     // Nothing, if there was no memory to list them.
     Unlisted,
@@ -173,7 +173,7 @@ impl<'a> Noted<'a> {
         }
     }
 
-    // Passes the elements of the image, all of which were noted: those that were listed by their starts,
+    // Passes the elements of the image, which were all noted: those that were listed by their starts,
     // and otherwise all in their order.
     fn pass(self, image: &Image<'a>) -> Passed<'a>
         requires { AreNoted image.now (elements_of image.now) self }
@@ -205,7 +205,7 @@ impl<'a> Noted<'a> {
     }
 }
 
-// The lesser of two places, of which either may be missing.
+// The lesser of two places, either of them possibly missing.
 pub(crate) fn least(one: Option<u64>, other: Option<u64>) -> Option<u64>
     ensures { result ≡ least_option one other }
 {
@@ -308,7 +308,7 @@ impl Claims {
     }
 }
 
-// Passes the elements of the image by their starts. The memory for `count` of those that have bytes is
+// Passes the elements of the image by their starts. The memory for `count` spans that have bytes is
 // allocated at once.
 fn sorted_elements<'a>(
     alloc: Global,

@@ -1,4 +1,4 @@
-//! Spans of which no two share a place.
+//! Spans that share no place.
 
 ghost use Rattle.std.specs.Prelude.{◌≡◌};
 ghost use Rattle.macho_spans.specs.Overlap.{sorted_spans};
@@ -8,11 +8,11 @@ use macho_fields::{Span, SpansByStart};
 use std::cell::Cell;
 use std::marker::Model;
 
-/// Spans by their starts, of which no two share a place.
+/// Spans by their starts, which share no place.
 #[derive(Drop)]
 pub struct Disjoint {
     spans: SpansByStart,
-    // The index of the span that held the last place of those that mostly ascend.
+    // The index of the span that held the last place, where places mostly ascend.
     last: Cell<usize>,
 }
 
@@ -34,7 +34,7 @@ impl Disjoint {
     ghost use Rattle.macho_spans.specs.Span.{IsInside};
     ghost use Rattle.macho_strict.specs.Disjoint.{IsHolding};
 
-    // The spans, each of which ends where the next one begins, or before that.
+    // The spans; each ends where the next one begins, or before.
     pub(crate) fn new(spans: SpansByStart) -> Disjoint
         requires { AreDisjoint (sorted_spans spans) }
         ensures { result ≡ sorted_spans spans }
@@ -75,7 +75,7 @@ impl Disjoint {
         }
     }
 
-    // The span that holds the place, if it is the one that held the last place or the one after it.
+    // The span that holds the place, if it held the last place, or is the span after that.
     fn holding_near(&self, place: u64) -> Option<Span>
         ensures { IfSome result (λ span. IsHolding self.now place (Some span)) }
     {

@@ -21,7 +21,7 @@ pub struct Element {
     /// Where it is described, as an offset in the image: 0 for the header and the commands, otherwise the
     /// `section_64` or the load command.
     pub described: u64,
-    /// Its bytes, of which there may be none.
+    /// Its bytes, or none.
     pub span: Span,
 }
 

@@ -1,26 +1,25 @@
 //! The bytes between spans.
 
-ghost use Rattle.std.specs.Prelude.{◌≡◌, ◌≢◌, ◌≤◌, ◌<◌, ℕ, length, slice_index, true};
+ghost use Rattle.std.specs.Prelude.{◌≡◌, ◌≤◌, ◌<◌, ℕ, length, true, false};
 ghost use Rattle.std.specs.List.Sorted.{IsNonDecreasingBy};
 ghost use Rattle.macho_fields.specs.Bytes.{bytes_of};
 ghost use Rattle.macho_fields.specs.FirstPlace.{IsLeastPlace};
 ghost use Rattle.macho_spans.specs.Span.{end_of};
 ghost use Rattle.macho_spans.specs.Overlap.{sorted_spans};
 ghost use Rattle.macho_strict.specs.Gaps.{ArePassed, IsStray, IsUnpadded};
+ghost use Rattle.macho_strict.specs.Nops.{is_nop as is_nop_of};
 
 use crate::disjoint::Disjoint;
+use crate::nops::is_nop;
 use macho_fields::{Bytes, Span, SpansByStart};
-
-// The instruction of one byte that does nothing, with which linkers fill gaps between code.
-pub(crate) const NOP: u8 = 0x90;
 
 // Which bytes are looked for.
 #[derive(Clone, Copy)]
 pub(crate) enum Wanted<'a> {
     // Those that are not zero.
     NonZero,
-    // Those that are neither zero nor a NOP in one of these spans, which are code.
-    Unpadded(&'a Disjoint),
+    // Those that are neither zero nor a NOP of the processor in one of the spans, which are code.
+    Unpadded(u32, &'a Disjoint),
 }
 
 impl<'a> Wanted<'a> {
@@ -35,47 +34,47 @@ impl<'a> Wanted<'a> {
     {
         match self {
             Wanted::NonZero => bytes.first_nonzero(span),
-            Wanted::Unpadded(code) => first_unpadded(bytes, code, span),
+            Wanted::Unpadded(cpu, code) => first_unpadded(bytes, cpu, code, span),
         }
     }
 }
 
-// The least place of the span that has a byte which is neither zero nor a NOP of the code. It is not made
-// part of the search for any byte that is not zero, which is more frequent.
+// The least place of the span that has a byte which is neither zero nor a NOP of the code, which is of this
+// processor. It is not made part of the search for any byte that is not zero, which is more frequent.
 #[inline(never)]
-fn first_unpadded(bytes: Bytes, code: &Disjoint, span: Span) -> Option<u64>
+fn first_unpadded(bytes: Bytes, cpu: u32, code: &Disjoint, span: Span) -> Option<u64>
     ensures { IsLeastPlace (λ place. (span.start ≤ place) × (place < end_of span)
-        × IsUnpadded code.now (bytes_of bytes.entry) place) result }
+        × IsUnpadded cpu code.now (bytes_of bytes.entry) place) result }
 {
     let end = span.end().min(u128::from(bytes.len())) as u64;
     let mut start = span.start;
     while start < end {
         let len = end - start;
         let place = bytes.first_nonzero(Span { start, len })?;
-        if bytes.read_u8(place) != NOP {
+        if !is_nop(cpu, bytes, place) {
             return Some(place);
         }
         let Some(part) = code.holding_next(place) else {
             return Some(place);
         };
         let limit = part.end().min(u128::from(end)) as u64;
-        start = nops_end(bytes, place + 1, limit);
+        start = nops_end(bytes, cpu, place + 1, limit);
     }
     None
 }
 
-// The first place from `start` on that has no NOP, or `end` if all up to there have one.
-fn nops_end(bytes: Bytes, start: u64, end: u64) -> u64
+// The first place from `start` on that has no NOP of the processor, or `end` if all up to there have one.
+fn nops_end(bytes: Bytes, cpu: u32, start: u64, end: u64) -> u64
     requires order { start ≤ end }
     requires inside { end ≤ length (bytes_of bytes) }
     ensures after { start ≤ result }
     ensures before { result ≤ end }
     ensures nops { (place : ℕ) → start ≤ place → place < result
-        → slice_index (bytes_of bytes.entry) place ≡ 0x90 }
-    ensures other { result < end → slice_index (bytes_of bytes.entry) result ≢ 0x90 }
+        → is_nop_of cpu (bytes_of bytes.entry) place ≡ true }
+    ensures other { result < end → is_nop_of cpu (bytes_of bytes.entry) result ≡ false }
 {
     let mut place = start;
-    while place < end && bytes.read_u8(place) == NOP {
+    while place < end && is_nop(cpu, bytes, place) {
         place += 1;
     }
     place

@@ -11,6 +11,7 @@ pub mod elements;
 mod encrypted;
 mod gaps;
 pub mod law;
+mod nops;
 mod overlap;
 mod profile;
 mod segments;

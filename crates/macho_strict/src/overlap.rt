@@ -1,4 +1,4 @@
-//! Lists of parts of an image, in the order of what describes them, and which of these share a place.
+//! Lists of parts of an image, in the order of what describes them, and which parts share a place.
 
 ghost use Rattle.std.specs.Prelude.{◌≡◌, ◌-◌, ◌*◌, ◌+◌, ◌≤◌, ◌^◌, List, length, map, max, min, IfOk};
 ghost use Rattle.std.specs.Iterator.{Drains, IsFinite};
@@ -71,7 +71,7 @@ impl<'a> FileParts<'a> {
     }
 }
 
-// The place of the first segment whose file part shares a place with that of an earlier one, or
+// The place of the first segment whose file part shares a place with an earlier one's, or
 // `None` if no two share one. For n segments it takes time in the order of n log n, and 24 bytes of
 // memory for each.
 pub(crate) fn sorted_file_overlap(alloc: Global, image: &Image) -> Result<Option<u64>, AllocError>

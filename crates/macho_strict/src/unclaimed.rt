@@ -15,7 +15,8 @@ ghost use Rattle.macho_strict.specs.Verdict.{HasLooseNop};
 
 use crate::claims::Claims;
 use crate::disjoint::Disjoint;
-use crate::gaps::{NOP, Wanted};
+use crate::gaps::Wanted;
+use crate::nops::is_nop;
 use crate::overlap::{FileParts, count_of};
 use macho_fields::header::vm_prot::VM_PROT_EXECUTE;
 use macho_fields::{Rule, SpanList};
@@ -49,14 +50,15 @@ fn first_unclaimed(alloc: Global, image: &Image, claims: &Claims) -> Result<Opti
     let Some(place) = claims.loose else {
         return Ok(None);
     };
-    if image.bytes().read_u8(place) != NOP {
+    let cpu = image.arch().0;
+    if !is_nop(cpu, image.bytes(), place) {
         return Ok(Some(place));
     }
     let code = code_of(alloc, image)?;
-    Ok(claims.stray(image, Wanted::Unpadded(&code)))
+    Ok(claims.stray(image, Wanted::Unpadded(cpu, &code)))
 }
 
-/// The bytes of the segments that may be executed, of those that have some. It takes memory: 24 bytes for each
+/// The bytes of the segments that may be executed, if they have some. It takes memory: 24 bytes for each
 /// segment.
 pub fn code_of(alloc: Global, image: &Image) -> Result<Disjoint, AllocError>
     requires opened { IsOpened image.now }
@@ -69,7 +71,7 @@ pub fn code_of(alloc: Global, image: &Image) -> Result<Disjoint, AllocError>
     Ok(Disjoint::new(list.sorted()))
 }
 
-// Adds the bytes of the segments that may be executed, of those that have some.
+// Adds the bytes of the segments that may be executed, if they have some.
 fn push_code(list: &mut SpanList, image: &Image) -> Result<(), AllocError>
     ensures { OnOk result (list.new.spans ≡ list.old.spans ++ occupied (code_parts image.now)) }
 {

@@ -16,14 +16,14 @@ use std::alloc::Global;
 /// Decides the rules of a file as `macho_rules::verify` does, and then the strict rules, in their order:
 /// accepts it, or returns the first broken one, with its place in the file.
 ///
-/// The strict rule of the file comes first; then those of its 64-bit slices, in the order of the
+/// The strict rule of the file comes first; then the rules of its 64-bit slices, in the order of the
 /// table. It takes memory as `verify` does, and then 24 bytes for each slice, segment or element of
 /// those that are not in the order of their bytes. If an image has an encrypted range, or a NOP in no
 /// element, it takes 24 bytes for each segment. If the commands end within the first 16 KiB of an image,
 /// the elements are listed in any case, if there is memory.
 pub fn verify_strictly<'a>(alloc: Global, file: &'a [u8]) -> Result<Verified<'a>, Refusal>
     // It accepts only a file that breaks no rule and no strict rule, and refuses only one that breaks
-    // one of them, unless there is no memory.
+    // one of them, unless memory runs out.
     ensures accepted { OnOk result (IsUnbroken file.now) }
     ensures strictly { OnOk result (IsStrictlyUnbroken file.now) }
     ensures refused { IfErr result (IsStrictRefusal file.now) }

@@ -11,7 +11,7 @@ use Rattle.macho_spans.specs.declared.span.Span.{Span}
 abbrev pub view_memory : SegmentView → Span
 view_memory s = memory_at s.image s.place
 
--- so many spans are those of the segments that were passed
+-- so many spans belong to the segments that were passed
 pub record AreNoted (all left : List SegmentView) (spans : List Span) (count : ℕ) : Type 0 where
   pub seen : List SegmentView
   pub reached : all ≡ seen ++ left

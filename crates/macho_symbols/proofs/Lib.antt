@@ -1,5 +1,7 @@
 mod FewSpans
+mod IndirectWalks
 mod NearAddresses
+mod ObsoleteTables
 mod RelocationWalks
 mod SectionNumbers
 mod SymbolWalks

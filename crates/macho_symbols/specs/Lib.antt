@@ -1,9 +1,12 @@
 pub mod Addresses
 pub mod Header
+pub mod Indirects
 pub mod Nlist
+pub mod Obsolete
 pub mod Reloc
 pub mod RelocationTables
 pub mod Relocations
+pub mod SectionTypes
 pub mod Sections
 pub mod SymbolLimits
 pub mod Symbols

@@ -4,7 +4,7 @@ use Rattle.macho_fields.specs.declared.header.nlist.TheConstants.{N_STAB, N_TYPE
 use Rattle.macho_image.specs.declared.symbol.Symbol.{Symbol}
 use Rattle.macho_fields.specs.declared.header.nlist.TheConstants as nlist
 
--- n_type: the symbol is no debugging entry (N_STAB), and has the type (N_TYPE)
+-- n_type: the symbol is not a debugging entry (N_STAB), and has the type (N_TYPE)
 abbrev pub HasType : ℕ → Symbol → Type 0
 HasType wanted symbol = (bit_and symbol.kind N_STAB ≡ 0) × (bit_and symbol.kind N_TYPE ≡ wanted)
 
@@ -17,7 +17,7 @@ IsImported symbol =
 abbrev pub library_ordinal : Symbol → ℕ
 library_ordinal symbol = symbol.desc / 2 ^ 8
 
--- another image defines it, and its ordinal is neither that of the image itself, 0, nor of one of so many
+-- another image defines it, and its ordinal is neither the image's own, 0, nor of one of so many
 -- libraries, nor a special one
 abbrev pub NamesNoLibrary : ℕ → Symbol → Type 0
 NamesNoLibrary libraries symbol =

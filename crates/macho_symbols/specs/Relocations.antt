@@ -20,8 +20,8 @@ abbrev pub IsAddend : List ℕ → Relocation → Type 0
 IsAddend image relocation =
     (cpu_type image ≡ CPU_TYPE_ARM64) × (relocation.kind ≡ ARM64_RELOC_ADDEND)
 
--- r_symbolnum is the index of a symbol, and there is no such symbol; or it is the number of a section, from 1 over
--- all segments, and there is no such section. 0 is no section (R_ABS).
+-- r_symbolnum is the index of a symbol, and that symbol does not exist; or it is the number of a section, from 1 over
+-- all segments, and that section does not exist. 0 does not name a section (R_ABS).
 abbrev pub NamesNothing : List ℕ → Relocation → Type 0
 NamesNothing image relocation =
     ((relocation.is_external ≡ true)
@@ -42,7 +42,7 @@ AtRelocation image start count P place =
     AtItem (λ k. start + RELOCATION_INFO_SIZE * k) count
     (λ k. P (relocation_at image (start + RELOCATION_INFO_SIZE * k))) place
 
--- one of those of a section has
+-- a relocation of a section has
 abbrev pub InSections : List ℕ → (Relocation → Type 0) → ℕ → Type 0
 InSections image P place =
     Any (λ section. AtRelocation image (reloff image section.1) (nreloc image section.1) P place)

@@ -20,7 +20,7 @@ IsMappedSection image number =
 abbrev pub is_mapped : SectionView → Bool
 is_mapped section = nat_lt 0 (vmsize section.image section.segment)
 
--- each number that a symbol can have is that of such a section, or not
+-- each number that a symbol can have names such a section, or not
 abbrev pub AreMappedSections : List ℕ → MappedSections → Type 0
 AreMappedSections image sections =
     (number : ℕ) → number < SECTION_NUMBERS

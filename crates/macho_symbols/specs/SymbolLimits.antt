@@ -10,7 +10,7 @@ use Rattle.macho_fields.specs.declared.header.nlist.TheConstants.{N_INDR}
 use Rattle.macho_symbols.specs.declared.symbols.Limits.{Limits}
 use Rattle.macho_tables.specs.Limits.{library_count}
 
--- they are those of the image
+-- they are the image's
 pub record AreLimits (image : List ℕ) (limits : Limits) : Type 0 where
   pub two_level : IsTrue limits.is_two_level ↔ IsTwoLevel image
   pub libraries : limits.libraries ≡ library_count image

@@ -14,16 +14,16 @@ use Rattle.macho_fields.specs.declared.header.nlist.TheConstants.{N_INDR}
 use Rattle.macho_symbols.specs.declared.symbols.SymbolSurvey.{SymbolSurvey}
 use Rattle.macho_tables.specs.Limits.{library_count}
 
--- each undefined symbol says of which library it is, and this one does not
+-- each undefined symbol says which library it is from, and this one does not
 abbrev pub LacksLibrary : List ℕ → Symbol → Type 0
 LacksLibrary image symbol = IsTwoLevel image × NamesNoLibrary (library_count image) symbol
 
--- a section of a mapped segment defines it, and its value is no address of a mapped segment, and no end of one
+-- a section of a mapped segment defines it, and its value is not an address of a mapped segment, and not the end of one
 abbrev pub IsAstraySymbol : List ℕ → Symbol → Type 0
 IsAstraySymbol image symbol =
     IsSectionType symbol.kind × IsMappedSection image symbol.sect × ¬ IsNearSegment image symbol.value
 
--- it is another name, and no zero byte ends the one that begins at n_value in the string table
+-- it stands for another name, and no zero byte ends the name that begins at n_value in the string table
 abbrev pub IsEndless : List ℕ → ℕ → Symbol → Type 0
 IsEndless image symtab symbol =
     HasType N_INDR symbol

@@ -11,7 +11,7 @@ use macho_tables::file_bytes::FEW_SEGMENTS;
 // The addresses of a few mapped segments, in the order of the commands.
 #[derive(Clone, Copy)]
 pub(crate) struct FewSpans {
-    // The first `count` are those of segments.
+    // The first `count` belong to segments.
     pub(crate) spans: [Span; FEW_SEGMENTS],
     pub(crate) count: usize,
 

@@ -8,7 +8,7 @@ use macho_fields::header::nlist::{
 };
 use macho_image::Symbol;
 
-/// Whether the symbol is no debugging entry, and has the type.
+/// Whether the symbol is not a debugging entry, and has the type.
 pub fn has_type(symbol: Symbol, wanted: u8) -> bool
     ensures { IsTrue result ↔ HasType wanted symbol }
 {
@@ -29,7 +29,7 @@ pub fn library_ordinal(symbol: Symbol) -> u16
     symbol.desc >> 8
 }
 
-/// Whether another image defines the symbol, and none of so many libraries has its number, which is no special
+/// Whether another image defines the symbol, and none of so many libraries has its number, which is not a special
 /// one either.
 pub fn names_no_library(symbol: Symbol, libraries: u64) -> bool
     ensures { IsTrue result ↔ NamesNoLibrary libraries symbol }

@@ -129,7 +129,7 @@ impl Named {
     ghost use Rattle.macho_symbols.specs.Relocations.{IsBadOf, NamesNothing};
     ghost use Rattle.macho_symbols.specs.RelocationTables.{IsNamed};
 
-    /// What those of the image can.
+    /// What the relocations of the image can name.
     pub fn of(image: &Image) -> Named
         ensures { IsNamed image.now result }
     {
@@ -151,7 +151,7 @@ impl Named {
         }
     }
 
-    /// Whether there is no symbol or section that the relocation names.
+    /// Whether the symbol or section that the relocation names does not exist.
     pub fn lacks(self, relocation: Relocation) -> bool
         ensures { (image : List ℕ) → IsNamed image self → IsTrue result ↔ NamesNothing image relocation }
     {

@@ -16,7 +16,7 @@ use std::alloc::{AllocError, Global};
 pub struct SymbolSurvey {
     /// The first undefined symbol of an image with `MH_TWOLEVEL` that is from no library.
     pub library: Option<u64>,
-    /// The first symbol of a section of a mapped segment whose value is no address of a mapped segment, and no
+    /// The first symbol of a section of a mapped segment whose value is not an address of a mapped segment, and not the
     /// end of one.
     pub value: Option<u64>,
     /// The first symbol that is another name, where no zero byte of the strings ends that name.
@@ -83,7 +83,7 @@ pub(crate) struct Limits {
     // Whether undefined symbols name libraries, and how many there are.
     is_two_level: bool,
     libraries: u64,
-    // Which sections lie in mapped segments, and the addresses of these.
+    // Which sections lie in mapped segments, and their addresses.
     sections: MappedSections,
     addresses: NearAddresses,
     // The first offset in the strings from which on no name ends.

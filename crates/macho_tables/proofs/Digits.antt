@@ -192,7 +192,7 @@ unsigned_digit stream place byte there small =
     let fits : digits_value (take 1 (drop place stream)) < 2 ^ 64 = rw value (omega (arith, small)) in
     rw (value, one) at (unsigned_some stream place _ whole fits)
 
--- where there is no byte, there is no number
+-- past the bytes no number begins
 pub unsigned_missing : (stream : List ℕ) (place : ℕ) → slice_get stream place ≡ None → unsigned_at stream place ≡ None
 unsigned_missing stream place none =
     unsigned_none stream place (cut _ 0 (byte_missing stream place 0 (rw no_more none)) (λ k below. absurd (omega arith)))

@@ -103,7 +103,7 @@ enough (suc most) (suc more) table address a b = by (enough most more) (next_sta
         let left = length-drop s.1 table in
         ap (λ starts. s.0 ∷ starts) (same (drop s.1 table) s.0 (omega (arith, some, inside, left, a)) (omega (arith, some, inside, left, b)))
 
--- those of the data are the first one, and those of what is left
+-- the functions of the data are the first one, and the functions of what is left
 pub starts_next : (table : List ℕ) (address : ℕ) (s : ℕ × ℕ) → next_start table address ≡ Some s
     → function_starts table address ≡ s.0 ∷ function_starts (drop s.1 table) s.0
 unfolding function_starts

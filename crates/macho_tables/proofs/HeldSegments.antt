@@ -22,7 +22,7 @@ segment_inside image opened segment has =
     let inside = command_inside image (commands_of image) facts are segment among in
     omega arith
 
--- that of one that is left in a walk
+-- the view of one that is left in a walk
 pub view_inside : (image : List ℕ) → IsOpened image → (s : SegmentView) → Contains (all_segments image) s.place → image ≡ s.image
     → s.place + 72 ≤ length s.image
 view_inside image opened s has same = subst (λ (bytes : List ℕ). s.place + 72 ≤ length bytes) same (segment_inside image opened s.place has)

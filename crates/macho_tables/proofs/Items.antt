@@ -1,4 +1,4 @@
--- Items that are numbered from 0 on, each at a place that is not before those of the items before it.
+-- Items that are numbered from 0 on, each at a place that is not before the place of an earlier item.
 use Rattle.std.proofs.Common.{◌≡◌, ℕ, suc, ◌+◌, ◌*◌, ◌≤◌, ◌<◌, ◌⊎◌, Option, None, Some, refl, sym, subst, arith, inl, inr}
 use Rattle.std.specs.Option.{option_map}
 use Rattle.std.proofs.lemmas.Bool.{cases_lt}
@@ -50,7 +50,7 @@ pub least_where : (Q : Type 0) (P : ℕ → Type 0) (found : Option ℕ) → Q �
 least_where Q P None holds none = λ place (_, broken). none place broken
 least_where Q P (Some first) holds (here, least) = ((holds, here), λ place (_, broken). least place broken)
 
--- a rule of two parts, of which one is not broken
+-- a rule of two parts, where one is not broken
 pub least_other : (P Q : ℕ → Type 0) (found : Option ℕ) → ((place : ℕ) → ¬ P place) → IsLeastPlace Q found → IsLeastPlace (λ place. P place ⊎ Q place) found
 least_other P Q None none least = λ place broken. elim broken [ inl one ↦ none place one | inr other ↦ least place other ]
 least_other P Q (Some first) none (here, least) = (inr here, λ place broken. elim broken [ inl one ↦ absurd (none place one) | inr other ↦ least place other ])

@@ -7,6 +7,7 @@ pub mod NamedTables
 pub mod Places
 pub mod HeldSegments
 pub mod Found
+pub mod SymbolTables
 pub mod Nots
 pub mod SafeBases
 pub mod Roomy
@@ -19,3 +20,6 @@ pub mod FileBytes
 pub mod MappedAddresses
 pub mod DataInCode
 pub mod CodeParts
+pub mod RunBytes
+pub mod SectionWalks
+pub mod InitOffsets

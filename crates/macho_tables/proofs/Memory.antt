@@ -102,7 +102,7 @@ module _ (image : List ℕ) (kept : (place : ℕ) → ¬ BreaksTableHome image p
       ∙ (still l (table.0 + k - fileoff image l) among mapped constant plain inside (λ any. clear (encrypts_around image byte (bytes_of_table table) (omega (arith, low, near)) (omega (arith, low, near)) any))
       ∙ (ap (slice_index image) place ∙ sym (part_at image table.0 table.1 k near)))
 
-  -- is that of the file
+  -- is the file's
   pub same_in_memory : (k : ℕ) → k < length bytes → memory (home + k) ≡ get_or bytes k 0
   same_in_memory k less = elim (cases_eq (memory (home + k)) (get_or bytes k 0)) [
     | inl same ↦ same
@@ -112,7 +112,7 @@ module _ (image : List ℕ) (kept : (place : ℕ) → ¬ BreaksTableHome image p
       no_home : ¬ ¬ HasHome (bytes_of_table table) image
       no_home none =
           let near = short k less in
-          kept command (listed, (names, any_of (IsHomeless image) (tables_of image command) table has (omega (arith, near), none)))
+          kept command (listed, inl (names, any_of (IsHomeless image) (tables_of image command) table has (omega (arith, near), none)))
 
       lost : ¬ (memory (home + k) ≡ get_or bytes k 0) → HasHome (bytes_of_table table) image → ⊥
       lost apart home_is =

@@ -21,7 +21,7 @@ use Rattle.macho_rules.proofs.Verdicts.{unbroken_opened}
 abbrev pub LieInside : List ℕ → ℕ → TableFields → Type 0
 LieInside image command f = (command + f.place + width_size f.width ≤ length image) × (command + f.count + width_size f.width ≤ length image)
 
--- those of a command of an opened image do
+-- the fields of a command of an opened image do
 pub bounds_opened : (image : List ℕ) → IsOpened image → (command : ℕ) (structure : Structure)
     → Contains (commands_of image) command × (structure_of (command_cmd image command) ≡ Some structure)
     → (fields : TableFields) → Contains (table_fields structure) fields → LieInside image command fields

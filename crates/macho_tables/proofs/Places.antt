@@ -17,7 +17,7 @@ pub least_same : (P Q : ℕ → Type 0) (found : Option ℕ) → ((place : ℕ) 
 least_same P Q None same none = λ place broken. none place ((same place).1 broken)
 least_same P Q (Some first) same (here, least) = ((same first).0 here, λ place broken. least place ((same place).1 broken))
 
--- those of two streams
+-- the least place of two streams
 pub least_joined : (P Q : ℕ → Type 0) (one other : Option ℕ) → IsLeastPlace P one → IsLeastPlace Q other → IsLeastPlace (λ place. P place ⊎ Q place) (lesser one other)
 least_joined P Q None None no_p no_q = λ place broken. elim broken [ inl p ↦ no_p place p | inr q ↦ no_q place q ]
 least_joined P Q None (Some b) no_p (here, least) = (inr here, λ place broken. elim broken [ inl p ↦ absurd (no_p place p) | inr q ↦ least place q ])
@@ -47,7 +47,7 @@ fits_moved P start size (Some first) inside fits (here, least) = let within = in
 -- The first command with a number
 
 module _ (image : List ℕ) where
-  -- it is one of the image, with a number of these
+  -- it is one of the image, with such a number
   pub named_first : (P : ℕ → Type 0) (cmd : ℕ) → P cmd → (command : ℕ) → first_with_cmd image cmd (commands_of image) ≡ Some command
       → Contains (commands_of image) command × P (command_cmd image command)
   named_first P cmd has command is =

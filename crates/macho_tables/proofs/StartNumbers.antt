@@ -207,7 +207,7 @@ module _ (image table : List ℕ) (place : ℕ) (found : Functions) (walked : Is
     | inr late ↦ late
   ]
 
-  -- there is no number at the place
+  -- no number begins at the place
   pub number_missing : place < length table → unsigned_at table place ≡ None → IsLeastPlace (BadNumber image table) (Some place)
   number_missing inside none = (inl ((walked.numbers, walked.are), inside, none), least)
     where
@@ -264,7 +264,7 @@ module _ (image table : List ℕ) (place : ℕ) (last : Functions) (walked : IsW
   stray_first : ((number after : ℕ) → unsigned_at table place ≡ Some (number, after) → ¬ (0 < number)) → IsLeastPlace (StrayStart image table) survey.start
   stray_first none = subst (IsLeastPlace (StrayStart image table)) (sym start) (walk_over image table place last walked none)
 
-  -- there is no number at the place
+  -- no number begins at the place
   pub survey_missing : survey.number ≡ Some place → place < length table → unsigned_at table place ≡ None → IsLeastOfTable image table survey
   survey_missing number inside none = record {
     number = subst (IsLeastPlace (BadNumber image table)) (sym number) (number_missing image table place last walked inside none);

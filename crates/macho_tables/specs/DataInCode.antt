@@ -45,7 +45,7 @@ LiesOutsideCode image bytes = (0 < bytes.len) × ¬ Any (IsCodeOf image bytes) (
 abbrev pub IsBadEntry : List ℕ → DataInCodeEntry → Type 0
 IsBadEntry image entry = (is_known_kind entry.kind ≡ false) ⊎ LiesOutsideCode image (bytes_of_entry entry)
 
--- the size of the table is no multiple of that of an entry
+-- the size of the table is not a multiple of an entry's
 abbrev pub HasRest : List ℕ → Type 0
 HasRest table = length table % loader.DATA_IN_CODE_ENTRY_SIZE ≢ 0
 

@@ -16,7 +16,7 @@ HasManySegments image = file_bytes.FEW_SEGMENTS < length (mapped_segments image)
 abbrev pub GivesFileBytes : (ℕ → Option Source) → ℕ → Type 0
 GivesFileBytes given address = (place : ℕ) × (given address ≡ Some (File place))
 
--- the addresses that are held have bytes of the file, and a mapping is that of the image
+-- the addresses that are held have bytes of the file, and a mapping is the image's
 pub record AreFileBytes (image : List ℕ) (bytes : FileBytes) : Type 0 where
   pub held : (address : ℕ) → Holds bytes.held address → IsFileAddress image address
   pub mapping : IfSome bytes.mapping (λ mapping. GivesSources image (sources mapping))

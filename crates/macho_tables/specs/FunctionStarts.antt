@@ -5,7 +5,7 @@ use Rattle.std.specs.Prelude.{ℕ, zero, suc, ◌+◌, ◌^◌, ◌&&◌, nat_lt
 use Rattle.std.specs.Option.{option_and_then, option_map_or}
 use Rattle.macho_tables.specs.Numbers.{unsigned_at}
 
--- The first function of the data past an address, with the size of its number. There is none where the data
+-- The first function of the data past an address, with the size of its number. It finds none where the data
 -- does not begin with a whole number, where this is 0, and where the function would be at 2^64 or more.
 unfoldable pub next_start : List ℕ → ℕ → Option (ℕ × ℕ)
 next_start table address =

@@ -1,10 +1,11 @@
--- The tables of linked data that commands name, and where they lie. (mach-o/loader.h:
--- dyld_info_command, linkedit_data_command, encryption_info_command_64, segment_command_64)
-use Rattle.std.specs.Prelude.{◌≡◌, ◌≢◌, ℕ, ◌<◌, List, Any, Contains, true, false, IsSomeAnd}
+-- The tables that loaders look for by commands, and where they lie. (mach-o/loader.h: dyld_info_command,
+-- linkedit_data_command, symtab_command, dysymtab_command, encryption_info_command_64, segment_command_64)
+use Rattle.std.specs.Prelude.{◌≡◌, ◌≢◌, ℕ, ◌*◌, ◌<◌, ◌⊎◌, List, Any, Contains, true, false, IsSomeAnd}
 use Rattle.std.specs.List.{find}
 use Rattle.macho_fields.specs.Image.{command_cmd, commands_of}
+use Rattle.macho_fields.specs.LoadCommands.{symbol_table, string_table, indirect_table}
 use Rattle.macho_fields.specs.Segment.{all_segments, vmaddr, vmsize, fileoff, filesize, shows_start}
-use Rattle.macho_fields.specs.Symbol.{tables_of}
+use Rattle.macho_fields.specs.Symbol.{table_at, tables_of}
 use Rattle.macho_fields.specs.declared.header.loader.TheConstants as loader
 use Rattle.macho_tables.specs.Kinds.{names_linked_data}
 use Rattle.macho_tables.specs.Segments.{is_constant, is_protected, IsLinkedit, IsText}
@@ -23,7 +24,7 @@ IsHome table image segment =
     (0 < vmsize image segment) × (is_constant image segment ≡ true)
     × (is_protected image segment ≡ false) × IsInside table (bytes_of_segment image segment)
 
--- loaders look for them in the segment, and it is no home of them
+-- loaders look for them in the segment, and it is not a home of them
 abbrev pub IsAstray : Span → List ℕ → ℕ → Type 0
 IsAstray table image segment = IsLinkedit image segment × ¬ IsHome table image segment
 
@@ -44,9 +45,12 @@ HasHome table image =
     Any (IsLinkedit image) (all_segments image) × (¬ Any (IsAstray table image) (all_segments image))
     × (¬ Any (Encrypts table image) (commands_of image))
 
--- the table has bytes, and no home
+-- the bytes of a table are some, and have no home
+abbrev pub LacksHome : List ℕ → Span → Type 0
+LacksHome image table = (0 < table.len) × ¬ HasHome table image
+
 abbrev pub IsHomeless : List ℕ → ℕ × ℕ × ℕ → Type 0
-IsHomeless image table = (0 < table.1) × ¬ HasHome (bytes_of_table table) image
+IsHomeless image table = LacksHome image (bytes_of_table table)
 
 -- the command names such a table of linked data
 abbrev pub HasHomeless : List ℕ → ℕ → Type 0
@@ -54,15 +58,34 @@ HasHomeless image command =
     (names_linked_data (command_cmd image command) ≡ true)
     × Any (IsHomeless image) (tables_of image command)
 
+-- the bytes of a table whose items have any size
+abbrev pub bytes_of_items : ℕ × ℕ × ℕ → Span
+bytes_of_items table = record { start = table.0; len = table.1 * table.2 }
+
+-- symtab_command: its symbols or its strings have none
+abbrev pub LosesSymbols : List ℕ → ℕ → Type 0
+LosesSymbols image symtab =
+    LacksHome image (bytes_of_items (table_at image symtab symbol_table))
+    ⊎ LacksHome image (bytes_of_items (table_at image symtab string_table))
+
+-- dysymtab_command: its indirect entries have none. Loaders look for no other of its tables.
+abbrev pub LosesIndirects : List ℕ → ℕ → Type 0
+LosesIndirects image dysymtab =
+    LacksHome image (bytes_of_items (table_at image dysymtab indirect_table))
+
+-- the command has symbols, strings or indirect entries without a home
+abbrev pub HasHomelessSymbols : List ℕ → ℕ → Type 0
+HasHomelessSymbols image command =
+    ((command_cmd image command ≡ loader.LC_SYMTAB) × LosesSymbols image command)
+    ⊎ ((command_cmd image command ≡ loader.LC_DYSYMTAB) × LosesIndirects image command)
+
+-- the command names a table that loaders look for, and that has no home
+abbrev pub HasLost : List ℕ → ℕ → Type 0
+HasLost image command = HasHomeless image command ⊎ HasHomelessSymbols image command
+
 -- the rule table-home, at the place of a command
 abbrev pub BreaksTableHome : List ℕ → ℕ → Type 0
-BreaksTableHome image place = Contains (commands_of image) place × HasHomeless image place
-
--- the command names a table of linked data that has bytes
-abbrev pub HasLinkedData : List ℕ → ℕ → Type 0
-HasLinkedData image command =
-    (names_linked_data (command_cmd image command) ≡ true)
-    × Any (λ table. 0 < table.1) (tables_of image command)
+BreaksTableHome image place = Contains (commands_of image) place × HasLost image place
 
 -- loaders take the segment for the one with the base, and it has another address
 abbrev pub IsTextElsewhere : ℕ → List ℕ → ℕ → Type 0
@@ -77,11 +100,10 @@ HasTextAt image base =
 abbrev pub IsSafeBase : List ℕ → ℕ → Type 0
 IsSafeBase image segment = (is_constant image segment ≡ true) × HasTextAt image (vmaddr image segment)
 
--- the image has a base, and it is that of such a segment
+-- the image has a base, and it is the address of such a segment
 abbrev pub HasSafeBase : List ℕ → Type 0
 HasSafeBase image = IsSomeAnd (find (shows_start image) (all_segments image)) (IsSafeBase image)
 
 -- the rule header-home, which is broken at the header
 abbrev pub BreaksHeaderHome : List ℕ → ℕ → Type 0
-BreaksHeaderHome image place =
-    (place ≡ 0) × Any (HasLinkedData image) (commands_of image) × ¬ HasSafeBase image
+BreaksHeaderHome image place = (place ≡ 0) × ¬ HasSafeBase image

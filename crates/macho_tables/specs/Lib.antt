@@ -15,3 +15,5 @@ pub mod FileBytes
 pub mod MappedAddresses
 pub mod DataInCode
 pub mod CodeParts
+pub mod RunBytes
+pub mod InitOffsets

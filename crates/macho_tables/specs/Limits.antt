@@ -13,7 +13,7 @@ use Rattle.macho_tables.specs.declared.limits.TheConstants as limit
 abbrev pub room : List ℕ → ℕ → ℕ
 room image segment = if is_writable image segment then filesize image segment else 0
 
--- those of all segments, in the order of the commands
+-- the rooms of all segments, in the order of the commands
 abbrev pub rooms_of : List ℕ → List ℕ
 rooms_of image = map (room image) (all_segments image)
 
@@ -25,7 +25,7 @@ budget_of image = sum_by (λ segment. room image segment / limit.POINTER_SIZE) (
 abbrev pub AreRooms : List ℕ → List ℕ → Type 0
 AreRooms rooms found = (k : ℕ) → k < limit.SEGMENTS → slice_index found k ≡ slice_index rooms k
 
--- a command with this cmd names a library that is loaded: dylib_command, but for the name of the image
+-- a command with this cmd names a library that is loaded: dylib_command, except for the name of the image
 -- itself
 unfoldable pub loads_library : ℕ → Bool
 loads_library cmd = names_library cmd && not (cmd == loader.LC_ID_DYLIB)

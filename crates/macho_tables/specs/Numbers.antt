@@ -7,7 +7,7 @@ use Rattle.macho_tables.specs.declared.numbers.Encoded.{Encoded}
 use Rattle.macho_tables.specs.declared.numbers.TheConstants as numbers
 
 -- The bytes of the number at the front of a stream: up to the first whose bit 0x80 is not set, and with
--- it. They are none where there is no such byte, or where they are more than ten.
+-- it. They are none without such a byte, or where they are more than ten.
 unfoldable pub number_bytes : List ℕ → Option (List ℕ)
 number_bytes stream =
     let size = position_or_len (λ byte. nat_lt byte 0x80) stream + 1 in
@@ -26,7 +26,7 @@ twos_complement value scale = if nat_lt (2 * value) scale then pos value else po
 abbrev pub signed_value : List ℕ → ℤ
 signed_value bytes = twos_complement (digits_value bytes) (0x80 ^ length bytes)
 
--- The unsigned number at a place, with the first place past it. It is none where it does not end, or is
+-- The unsigned number at a place, with the first place past it. It is None where it does not end, or is
 -- 2^64 or more.
 unfoldable pub unsigned_at : List ℕ → ℕ → Option (ℕ × ℕ)
 unsigned_at stream place =
@@ -45,7 +45,7 @@ abbrev pub fits_i64 : ℤ → Bool
 fits_i64 (pos n) = nat_lt n (2 ^ 63)
 fits_i64 (negsuc n) = nat_lt n (2 ^ 63)
 
--- The signed number at a place, with the first place past it. It is none where it does not end, or has
+-- The signed number at a place, with the first place past it. It is None where it does not end, or has
 -- no 64 signed bits.
 unfoldable pub signed_at : List ℕ → ℕ → Option (ℤ × ℕ)
 signed_at stream place =

@@ -7,7 +7,7 @@ use Rattle.macho_fields.specs.declared.header.loader.TheConstants as loader
 use Rattle.macho_fields.specs.declared.load_command.TableFields.{TableFields}
 use Rattle.macho_image.specs.Command.{first_with_cmd}
 
--- the command that names the streams of opcodes of an image, of which there is at most one after table-repeated
+-- the command that names the streams of opcodes of an image, which is at most one after table-repeated
 abbrev pub dyld_info : List ℕ → Option ℕ
 dyld_info image =
     option_map_or (λ command. Some command)

@@ -9,18 +9,18 @@ use Rattle.macho_tables.specs.DataTables.{InDataTable}
 use Rattle.macho_tables.specs.Numbers.{unsigned_at}
 
 -- Numbers other than 0, from a place on: each begins where the one before it ends, and the last one ends at
--- next, which is start if there is none.
+-- next, which is start without a number.
 abbrev pub AreNumbersFrom : List ℕ → ℕ → List ℕ → ℕ → Type 0
 AreNumbersFrom table start [] next = start ≡ next
 AreNumbersFrom table start (first ∷ numbers) next =
     (after : ℕ) × (unsigned_at table start ≡ Some (first, after)) × (0 < first)
     × AreNumbersFrom table after numbers next
 
--- these are all numbers before a place, of which the first is at the start
+-- these are all numbers before a place, and the first is at the start
 abbrev pub AreNumbers : List ℕ → List ℕ → ℕ → Type 0
 AreNumbers table numbers place = AreNumbersFrom table 0 numbers place
 
--- the numbers come up to the place, where another one should be, and there is none of 64 bits
+-- the numbers come up to the place, where another one should be, and no number of 64 bits is there
 abbrev pub IsNoNumber : List ℕ → ℕ → Type 0
 IsNoNumber table place =
     ((numbers : List ℕ) × AreNumbers table numbers place) × (place < length table)

@@ -41,7 +41,7 @@ impl CodeParts {
         Ok(CodeParts::One(first.file_part()))
     }
 
-    // Whether the bytes, of which there are some, are all in one part.
+    // Whether the bytes, at least one, are all in one part.
     pub(crate) fn has(&self, bytes: Span) -> bool
         requires { 0 < bytes.len }
         ensures { IsTrue result ↔ HasCodePart self.now bytes }

@@ -97,7 +97,7 @@ pub fn is_known_kind(kind: u16) -> bool
 }
 
 /// The place of the first entry whose kind has no meaning, or whose bytes are not all file bytes of one segment
-/// that may be executed; or the start of the table, if its size is no multiple of that of an entry. The image
+/// that may be executed; or the start of the table, if its size is not a multiple of an entry's. The image
 /// breaks no rule of the layout and no strict rule. It takes memory only if several segments may be executed.
 pub fn data_in_code(alloc: Global, image: &Image) -> Result<Option<u64>, AllocError>
     requires unbroken { NothingBreaks (Breaks image.now None) }
@@ -113,7 +113,7 @@ pub fn data_in_code(alloc: Global, image: &Image) -> Result<Option<u64>, AllocEr
     Ok(place_from(table.start, found))
 }
 
-// The offset of the first bad entry of the table, or 0 if its size is no multiple of that of an entry.
+// The offset of the first bad entry of the table, or 0 if its size is not a multiple of an entry's.
 fn first_bad(table: Bytes, code: &CodeParts) -> Option<u64>
     ensures { (image : List ℕ) → AreCodeParts image code.now
         → IsLeastPlace (BadEntry image (bytes_of table.entry)) result }

@@ -1,16 +1,18 @@
-//! Where the tables of linked data lie: a loader reads them in memory while it writes, so it must find them
-//! there as they are in the file. (`mach-o/loader.h`)
+//! Where the tables lie that loaders look for by commands: a loader reads them in memory while it writes, so it must
+//! find them there as they are in the file. (`mach-o/loader.h`)
 
-ghost use Rattle.std.specs.Prelude.{◌≡◌, ◌↔◌, ◌+◌, ◌≤◌, ◌<◌, [], length, IsTrue, Any, if◌then◌else◌};
+ghost use Rattle.std.specs.Prelude.{◌≡◌, ◌↔◌, ◌+◌, ◌≤◌, [], length, IsTrue, Any, if◌then◌else◌};
 ghost use Rattle.std.specs.Option.{option_map_or};
 ghost use Rattle.macho_fields.specs.FirstPlace.{IsLeastPlace};
 ghost use Rattle.macho_fields.specs.Image.{commands_of};
-ghost use Rattle.macho_fields.specs.LoadCommands.{structure_of, table_fields as fields_of, width_size};
+ghost use Rattle.macho_fields.specs.LoadCommands.{structure_of, structure_size, table_fields as fields_of, width_size};
 ghost use Rattle.macho_fields.specs.Segment.{all_segments};
 ghost use Rattle.macho_fields.specs.Symbol.{table_at, tables_of};
+ghost use Rattle.macho_fields.specs.declared.load_command.Structure.TheVariants.{SymtabCommand, DysymtabCommand};
+ghost use Rattle.macho_fields.specs.declared.load_command.Width.TheVariants.{Uint32};
 ghost use Rattle.macho_image.specs.Command.{command_of};
 ghost use Rattle.macho_image.specs.Opened.{IsCommandOf};
-ghost use Rattle.macho_tables.specs.Homes.{bytes_of_table, Encrypts, IsHome, IsAstray, HasHome, IsHomeless, HasHomeless, BreaksTableHome, HasLinkedData, IsTextElsewhere, HasTextAt, IsSafeBase, HasSafeBase, BreaksHeaderHome};
+ghost use Rattle.macho_tables.specs.Homes.{bytes_of_table, bytes_of_items, Encrypts, IsHome, IsAstray, HasHome, IsHomeless, HasHomeless, LacksHome, LosesSymbols, LosesIndirects, HasHomelessSymbols, HasLost, BreaksTableHome, IsTextElsewhere, HasTextAt, IsSafeBase, HasSafeBase, BreaksHeaderHome};
 ghost use Rattle.macho_tables.specs.Kinds.{names_linked_data as linked_data_of};
 ghost use Rattle.macho_tables.specs.Segments.{IsLinkedit, IsText};
 ghost use Rattle.macho_spans.specs.Span.{Shares};
@@ -18,50 +20,54 @@ ghost use Rattle.macho_spans.specs.Span.{Shares};
 use crate::kinds::names_linked_data;
 use crate::place::place_of;
 use crate::segment::{is_constant, is_linkedit, is_protected, is_text};
-use macho_fields::header::loader::{LC_ENCRYPTION_INFO_64, SEGMENT_COMMAND_64_SIZE};
-use macho_fields::{Span, TableFields, structure_of};
+use macho_fields::header::loader::dysymtab_command::{INDIRECTSYMOFF, NINDIRECTSYMS};
+use macho_fields::header::loader::symtab_command::{NSYMS, STROFF, STRSIZE, SYMOFF};
+use macho_fields::header::loader::{
+    INDIRECT_ENTRY_SIZE, LC_DYSYMTAB, LC_ENCRYPTION_INFO_64, LC_SYMTAB, SEGMENT_COMMAND_64_SIZE,
+};
+use macho_fields::header::nlist::NLIST_64_SIZE;
+use macho_fields::{Span, TableFields, Width, structure_of};
 use macho_image::{Command, Image, Segment};
 
-/// The place of the first command that names a table of linked data without a home: a loader does not find
-/// it in a segment named `__LINKEDIT`, can write it, or finds other bytes than those of the file.
+/// The symbols of `LC_SYMTAB`.
+const SYMBOL_TABLE: TableFields = TableFields {
+    place: SYMOFF,
+    count: NSYMS,
+    width: Width::Uint32,
+    item_size: NLIST_64_SIZE,
+};
+
+/// The strings of `LC_SYMTAB`.
+const STRING_TABLE: TableFields = TableFields {
+    place: STROFF,
+    count: STRSIZE,
+    width: Width::Uint32,
+    item_size: 1,
+};
+
+/// The indirect entries of `LC_DYSYMTAB`.
+const INDIRECT_TABLE: TableFields = TableFields {
+    place: INDIRECTSYMOFF,
+    count: NINDIRECTSYMS,
+    width: Width::Uint32,
+    item_size: INDIRECT_ENTRY_SIZE,
+};
+
+/// The place of the first command that names a table without a home, of linked data, symbols, strings or indirect
+/// entries: a loader does not find it in a segment named `__LINKEDIT`, can write it, or finds other bytes than the
+/// file's.
 pub fn table_home(image: &Image) -> Option<u64>
     ensures { IsLeastPlace (BreaksTableHome image.now) result }
 {
-    place_of(
-        image
-            .commands()
-            .find(|command| has_homeless(image, command)),
-    )
+    place_of(image.commands().find(|command| has_lost(image, command)))
 }
 
-/// The place 0, if a command names a table of linked data, and the image has no base, or its segment can
-/// be written or not be read, or a loader that goes by the name `__TEXT` takes no address or another one for
-/// the base.
+/// The place 0, if the image has no base, or its segment can be written or not be read, or a loader that goes by the
+/// name `__TEXT` takes no address or another one for the base.
 pub fn header_home(image: &Image) -> Option<u64>
     ensures { IsLeastPlace (BreaksHeaderHome image.now) result }
 {
-    if has_linked_data(image) && !has_safe_base(image) {
-        Some(0)
-    } else {
-        None
-    }
-}
-
-// Whether a command names a table of linked data that has bytes.
-fn has_linked_data(image: &Image) -> bool
-    ensures { IsTrue result ↔ Any (HasLinkedData image.now) (commands_of image.now) }
-{
-    image.commands().any(|command| has_table(image, &command))
-}
-
-// Whether the command names a table of linked data that has bytes.
-fn has_table(image: &Image, command: &Command) -> bool
-    requires { IsCommandOf image.now (command_of command.now) }
-    ensures { IsTrue result ↔ HasLinkedData image.now command.now.place }
-{
-    linked_fields(command.cmd)
-        .iter()
-        .any(|fields| span_of(image, command.place, *fields).len > 0)
+    if has_safe_base(image) { None } else { Some(0) }
 }
 
 // Whether the image has a base, which loaders find, and cannot write.
@@ -106,6 +112,68 @@ fn has_text_elsewhere(image: &Image, base: u64) -> bool
         .any(|segment| is_text(&segment) && segment.vmaddr() != base)
 }
 
+// Whether the command names a table that loaders look for, and that has no home.
+fn has_lost(image: &Image, command: &Command) -> bool
+    requires { IsCommandOf image.now (command_of command.now) }
+    ensures { IsTrue result ↔ HasLost image.now command.now.place }
+{
+    has_homeless(image, command) || has_homeless_symbols(image, command)
+}
+
+// Whether the command has symbols, strings or indirect entries without a home.
+fn has_homeless_symbols(image: &Image, command: &Command) -> bool
+    requires { IsCommandOf image.now (command_of command.now) }
+    ensures { IsTrue result ↔ HasHomelessSymbols image.now command.now.place }
+{
+    if command.cmd == LC_SYMTAB {
+        return loses_symbols(image, command.place);
+    }
+    command.cmd == LC_DYSYMTAB && loses_indirects(image, command.place)
+}
+
+// Whether the symbols or the strings of the `symtab_command` have no home.
+fn loses_symbols(image: &Image, symtab: u64) -> bool
+    requires { symtab + structure_size SymtabCommand ≤ length image.now }
+    ensures { IsTrue result ↔ LosesSymbols image.now symtab }
+{
+    lose_home(image, symtab, SYMBOL_TABLE) || lose_home(image, symtab, STRING_TABLE)
+}
+
+// Whether the indirect entries of the `dysymtab_command` have no home.
+fn loses_indirects(image: &Image, dysymtab: u64) -> bool
+    requires { dysymtab + structure_size DysymtabCommand ≤ length image.now }
+    ensures { IsTrue result ↔ LosesIndirects image.now dysymtab }
+{
+    lose_home(image, dysymtab, INDIRECT_TABLE)
+}
+
+// Whether the items that these fields of the command bound have bytes and no home.
+fn lose_home(image: &Image, command: u64, fields: TableFields) -> bool
+    requires place { command + fields.place + width_size fields.width ≤ length image.now }
+    requires count { command + fields.count + width_size fields.width ≤ length image.now }
+    requires width { fields.width ≡ Uint32 }
+    requires item { fields.item_size ≤ NLIST_64_SIZE }
+    ensures { IsTrue result
+        ↔ LacksHome image.now (bytes_of_items (table_at image.now command fields)) }
+{
+    lacks_home(image, items_of(image, command, fields))
+}
+
+// The bytes of the items that these fields of the command bound.
+fn items_of(image: &Image, command: u64, fields: TableFields) -> Span
+    requires place { command + fields.place + width_size fields.width ≤ length image.now }
+    requires count { command + fields.count + width_size fields.width ≤ length image.now }
+    requires width { fields.width ≡ Uint32 }
+    requires item { fields.item_size ≤ NLIST_64_SIZE }
+    ensures { result ≡ bytes_of_items (table_at image.now command fields) }
+{
+    let bytes = image.bytes();
+    let start = fields.table_place(bytes, command);
+    let count = fields.item_count(bytes, command);
+    let len = count * fields.item_size;
+    Span { start, len }
+}
+
 // Whether the command names a table of linked data that has bytes and no home.
 fn has_homeless(image: &Image, command: &Command) -> bool
     requires { IsCommandOf image.now (command_of command.now) }
@@ -144,7 +212,13 @@ fn is_homeless(image: &Image, command: u64, fields: TableFields) -> bool
     requires count { command + fields.count + width_size fields.width ≤ length image.now }
     ensures { IsTrue result ↔ IsHomeless image.now (table_at image.now command fields) }
 {
-    let table = span_of(image, command, fields);
+    lacks_home(image, span_of(image, command, fields))
+}
+
+// Whether the table has bytes and no home.
+fn lacks_home(image: &Image, table: Span) -> bool
+    ensures { IsTrue result ↔ LacksHome image.now table }
+{
     table.len > 0 && !has_home(image, table)
 }
 
@@ -174,14 +248,14 @@ pub fn has_linkedit(image: &Image) -> bool
     image.segments().any(|segment| is_linkedit(&segment))
 }
 
-// Whether loaders look for the table in some segment that is no home of it.
+// Whether loaders look for the table in some segment that is not a home of it.
 fn has_astray(image: &Image, table: Span) -> bool
     ensures { IsTrue result ↔ Any (IsAstray table image.now) (all_segments image.now) }
 {
     image.segments().any(|segment| is_astray(&segment, table))
 }
 
-// Whether loaders look for the table in the segment, and it is no home of it.
+// Whether loaders look for the table in the segment, and it is not a home of it.
 fn is_astray(segment: &Segment, table: Span) -> bool
     requires { segment.now.place + SEGMENT_COMMAND_64_SIZE ≤ length segment.now.image }
     ensures { IsTrue result ↔ IsAstray table segment.now.image segment.now.place }

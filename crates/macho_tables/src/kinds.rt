@@ -1,4 +1,4 @@
-//! The commands that name linked data, of which an image has at most one of each kind, and those that no
+//! The commands that name linked data, at most one of each kind in an image, and those that no
 //! rule can judge. (`mach-o/loader.h`)
 
 ghost use Rattle.std.specs.Prelude.{◌≡◌, ◌<◌, ◌↔◌, IsTrue, true};
@@ -72,8 +72,8 @@ pub fn share_kind(cmd: u32, other: u32) -> bool
         || (is_alone(cmd) && cmd == other)
 }
 
-// Whether a command with this `cmd` names what a loader writes.
-fn is_fixups(cmd: u32) -> bool
+/// Whether a command with this `cmd` names what a loader writes.
+pub fn is_fixups(cmd: u32) -> bool
     ensures { result ≡ is_fixups_of cmd }
 {
     matches!(

@@ -1,7 +1,7 @@
 #![tactic(auto)]
-//! What the linked profile says of the tables of linked data, whatever is in them: of which kind they are, where
-//! they lie, and to which segments and libraries they refer. And the two with no rule of a loader: where the
-//! functions of an image and its data in code are.
+//! What the linked profile says of the tables of linked data, whatever is in them: which kind they are of, where
+//! they lie, and to which segments and libraries they refer. And where the functions of an image, its data in code and
+//! its initializers are.
 
 mod code_parts;
 pub mod data_in_code;
@@ -10,9 +10,11 @@ pub mod fields;
 pub mod file_bytes;
 pub mod function_starts;
 pub mod homes;
+pub mod init_offsets;
 pub mod kinds;
 pub mod limits;
 pub mod mapped_addresses;
 pub mod numbers;
 pub mod place;
+mod run_bytes;
 pub mod segment;

@@ -41,14 +41,14 @@ pub fn is_protected(segment: &Segment) -> bool
     flags & SG_PROTECTED_VERSION_1 != 0
 }
 
-/// Whether loaders take the segment, by its name, for the one that has the linked data.
+/// Whether loaders take the segment, by its name, for the segment of the linked data.
 pub fn is_linkedit(segment: &Segment) -> bool
     ensures { IsTrue result ↔ IsLinkedit segment.now.image segment.now.place }
 {
     segment.name() == SEG_LINKEDIT
 }
 
-/// Whether loaders take the segment, by its name, for the one that has the base.
+/// Whether loaders take the segment, by its name, for the segment of the base.
 pub fn is_text(segment: &Segment) -> bool
     ensures { IsTrue result ↔ IsText segment.now.image segment.now.place }
 {

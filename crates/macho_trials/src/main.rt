@@ -21,7 +21,7 @@ fn main(rt: HostRuntime) -> ExitCode {
     })
 }
 
-/// Does what the words say, of which the first is the program's name. Each part says its statuses.
+/// Does what the words say, after the program's name. Each part says its statuses.
 fn status_of(rt: &HostRuntime, mut words: Args<Global>) -> u8 {
     let word = words.nth(1);
     match word.as_deref() {

@@ -95,7 +95,7 @@ all_sections_hold image keeps =
     (all_flat (λ places. IsVerifiedSection (section_at image places)) (sections_with image) (segments_of image (commands_of image))
     (λ k d less. sections_held (segment_at image _) (keeps, All-contains_itself (segments_of image (commands_of image)) k d less)))
 
--- the item at an index of a list of which P holds
+-- the item at an index of a list whose items have P
 pub got_has : {X : Type 0} (P : X → Type 0) (xs : List X) (n : ℕ) (x : X) → slice_get xs n ≡ Some x → All P xs → P x
 got_has P [] n x is all = absurd (none-some x is)
 got_has P (y ∷ ys) zero x is all = subst P (same_Some y x is) (all 0 y (omega arith))

@@ -39,8 +39,8 @@ impl<'a> VerifiedImage<'a> {
     ghost use Rattle.macho_image.specs.Symbol.{symbols_of};
     ghost use Rattle.macho_verified.specs.Image.{symbol_view, HasBytesAt, bytes_in_segment};
 
-    /// The image in the slice with this index, or `None` if the slice is of another kind, or there
-    /// is none. It rescans the commands of the image, and judges nothing.
+    /// The image in the slice with this index, or `None` if the slice is of another kind, or the file
+    /// has none. It rescans the commands of the image, and judges nothing.
     pub fn of(verified: &Verified<'a>, index: u64) -> Option<VerifiedImage<'a>>
         ensures is_image { IsSome result ↔ HasImage verified.now index }
         ensures image { IfSome result (λ image.
@@ -70,7 +70,7 @@ impl<'a> VerifiedImage<'a> {
         }
     }
 
-    /// The section with this number, or `None` if there is none. Sections are numbered from 1 on
+    /// The section with this number, or `None` without one. Sections are numbered from 1 on
     /// over all segments, as `n_sect` of a symbol numbers them. (`mach-o/nlist.h`: `nlist_64`)
     pub fn section(&self, number: u8) -> Option<VerifiedSection<'a>>
         ensures none { number ≡ 0 → result ≡ None }
@@ -114,7 +114,7 @@ impl<'a> VerifiedImage<'a> {
         self.symbol_group((0, count))
     }
 
-    /// The symbol with this index in the table of `LC_SYMTAB`, or `None` if there is none. It does
+    /// The symbol with this index in the table of `LC_SYMTAB`, or `None` past its end. It does
     /// not scan the symbols before it.
     pub fn symbol(&self, index: u64) -> Option<VerifiedSymbol<'a>>
         ensures { result ≡ slice_get (map (symbol_view self.now)

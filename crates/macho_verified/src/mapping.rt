@@ -11,7 +11,7 @@ impl<'a> VerifiedImage<'a> {
     ghost use Rattle.macho_rules.specs.Verdict.{HasMapped};
 
     /// The mapping of the image, which says what is at each of its addresses. It takes memory for
-    /// the mapped segments alone, and none if there are none.
+    /// the mapped segments alone, and none without any.
     pub fn mapping(&self, alloc: Global) -> Result<Mapping, AllocError>
         ensures sources { IfOk result (λ mapping. GivesSources self.now (sources mapping)) }
         ensures segments { IfOk result (λ mapping.

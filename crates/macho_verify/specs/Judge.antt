@@ -7,7 +7,7 @@ use Rattle.macho_profiles.specs.Profiles.{IsRefusedBy}
 use Rattle.macho_rules.specs.declared.refusal.Refusal.TheVariants.{Broken}
 use Rattle.macho_verify.specs.Cdhashes.{cdhashes_text}
 
--- b is the first of all rules that the file breaks, of those of the profiles up to this one
+-- b is the first of all rules that the file breaks, among the profiles up to this one
 abbrev pub IsRefusedFor : Profile → List ℕ → Break → Type 0
 IsRefusedFor profile file b = IsRefusedBy profile file (Broken b)
 

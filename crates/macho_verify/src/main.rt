@@ -1,5 +1,5 @@
 #![tactic(auto)]
-//! `macho-verify`: reads a file, and prints its layout, or the first rule that it breaks, of those of a profile.
+//! `macho-verify`: reads a file, and prints its layout, or the first rule of a profile that it breaks.
 
 mod cdhashes;
 mod judge;

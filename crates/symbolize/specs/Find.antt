@@ -26,8 +26,8 @@ abbrev pub IsAtOrBefore : ℕ → SymbolView → Type 0
 IsAtOrBefore address symbol =
     NamesSection symbol.image symbol.place × (value_of symbol ≤ address)
 
--- of these symbols, it is the one that is nearest to the address: no other at or before the address
--- has a greater value, and of those with its value it is the last
+-- among the symbols, it is the nearest to the address: no other at or before the address
+-- has a greater value, and among symbols with its value it is the last
 pub record IsNearest (address : ℕ) (symbols : List SymbolView) (nearest : SymbolView) : Type 0 where
   pub before : List SymbolView
   pub after : List SymbolView
@@ -44,7 +44,7 @@ HasAddress address section =
     × Covers (section_address section.image section.place)
     (section_size section.image section.place) address
 
--- of these sections, it is the first that has the address
+-- among the sections, it is the first that has the address
 pub record IsFirstAt (address : ℕ) (sections : List SectionView) (first : SectionView) : Type 0 where
   pub before : List SectionView
   pub after : List SectionView

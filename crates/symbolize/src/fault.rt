@@ -1,11 +1,11 @@
-//! Why there is no line for an address.
+//! Why an address has no line.
 
 use macho_rules::Refusal;
 use std::alloc::{AllocError, AllocFailed};
 use std::io;
 use thiserror::Error;
 
-/// Why there is no line for an address.
+/// Why an address has no line.
 #[derive(Clone, Copy, Debug, Error)]
 pub(crate) enum Fault {
     /// The words of the call are not a slice and addresses.
@@ -14,10 +14,10 @@ pub(crate) enum Fault {
     /// The file breaks a rule, or there was no memory to judge it.
     #[error("{0}")]
     Refused(Refusal),
-    /// The slice is not read, or there is none with the index.
+    /// The slice is not read, or the file has none with the index.
     #[error("no such image")]
     NoImage,
-    /// There is no memory.
+    /// Memory ran out.
     #[error("out of memory")]
     Memory,
     /// Reading or writing failed.

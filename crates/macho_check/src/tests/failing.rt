@@ -90,7 +90,7 @@ fn each_read_fails_in_turn(rt: HostRuntime) {
     }
 }
 
-/// Makes the call once where no read fails, and once for each of these reads that fails.
+/// Makes the call once where no read fails, and once for each read, which then fails.
 fn check_reads(rt: &(impl Abort + AllocGlobal), file: &[u8], call: Call, most: usize, count: u64) {
     for fails_at in 0..=count {
         let mut reader = CountingReader::new(file, fails_at);
@@ -159,7 +159,7 @@ fn check_write(
     same(rt, &writer.writes, &writes);
 }
 
-/// A call with a limit on a file, by reads and writes of one byte, of which this read and this write
+/// A call with a limit on a file, by reads and writes of one byte, where this read and this write
 /// fail; how it ends, how many reads there are, and the text.
 type Ending = (
     Call,

@@ -112,7 +112,7 @@ fn a_span_holds_its_first_place_and_not_its_end(rt: HostRuntime) {
     same(&rt, &(last.holds(u64::MAX), last.holds(7)), &(true, false));
 }
 
-/// Spans, whether each is inside that of 4 from 8 on, and whether it shares a place with it.
+/// Spans, whether each is inside the span of 4 from 8 on, and whether it shares a place with it.
 const INSIDE: &[(u64, u64, bool, bool)] = &[
     (8, 4, true, true),
     (9, 2, true, true),
@@ -175,7 +175,7 @@ const OVERLAPS: &[(&[(u64, u64)], Option<u64>)] = &[
     (&[], None),
 ];
 
-/// A list of these spans.
+/// A list of spans.
 fn list_of(alloc: Global, spans: &[(u64, u64)]) -> Result<SpanList, AllocError> {
     let mut list = SpanList::with_capacity(alloc, spans.len())?;
     for &(start, len) in spans {

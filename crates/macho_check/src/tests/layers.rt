@@ -8,7 +8,7 @@ use macho_fields::{Bytes, Span};
 use macho_rules::{Mapping, verify};
 use std::process::Abort;
 
-/// A slice of these bytes and this architecture, and whether it is read.
+/// A slice with the bytes and the architecture, and whether it is read.
 macro_rules! slice {
     ($start:expr, $len:expr, $arch:expr, $read:expr) => {
         Slice {

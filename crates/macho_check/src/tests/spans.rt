@@ -95,7 +95,7 @@ const SORTED: &[Insertion] = &[
     insertion!(u64::MAX, 1, 9, Added, 2),
 ];
 
-/// Places, and what is found there of these spans.
+/// Places, and what is found there among the spans.
 const SORTED_FINDS: &[LookUp] = &[
     look_up!(14, Some((10, 5, 8)), 2),
     look_up!(15, None, 2),
@@ -114,7 +114,7 @@ fn sorted_spans(rt: HostRuntime) -> Result<(), Fail> {
     Ok(())
 }
 
-/// Spans on both sides of a gap, of which three overlap one or both.
+/// Spans on both sides of a gap; three overlap one or both.
 const AROUND: &[Insertion] = &[
     insertion!(0, 100, 1, Added, 0),
     insertion!(200, 1, 2, Added, 1),
@@ -142,7 +142,7 @@ fn check_one_of_many(rt: &impl Abort, spans: &mut Spans, tag: u64)
     check_find(rt, spans, &look_up!(3 * tag + 2, None, 10));
 }
 
-/// Spans at both ends and in the middle of a thousand, of which each has a place between two of them, or more.
+/// Spans at both ends and in the middle of a thousand; each has a place between two of them, or more.
 const BETWEEN: &[Insertion] = &[
     insertion!(1, 2, 1000, Overlap, 10),
     insertion!(2, 1, 1001, Added, 10),

@@ -108,7 +108,7 @@ fn no_read_follows_an_error_of_std(rt: HostRuntime) {
     }
 }
 
-/// Makes seven reads, of which this one fails. No later one is passed on.
+/// Makes seven reads, and this one fails. No later one is passed on.
 fn check_failed_read(rt: &impl Abort, fails_at: u64) {
     let mut counted = CountingReader::new(BARE_HEADER, fails_at);
     let mut reader = FromRead::new(&mut counted);
@@ -140,7 +140,7 @@ fn no_call_follows_an_error_of_std(rt: HostRuntime) {
     }
 }
 
-/// Makes seven calls, by turns a write and a flush, of which this one goes wrong. No later one is passed
+/// Makes seven calls, by turns a write and a flush, and this one goes wrong. No later one is passed
 /// on.
 fn check_failed_call(rt: &(impl Abort + AllocGlobal), fails_at: u64, fault: Fault) {
     let mut counted = CountingWriter::new(Vec::new(rt.alloc()), fails_at, fault);
@@ -202,7 +202,7 @@ const ENDS: &[(Option<&[&str]>, u64, u64, End)] = &[
         0,
         End(0, BARE_LAYOUT, "", (2, 3, 1)),
     ),
-    // Nothing is read where the file is not opened, and nothing is written or flushed where there is no
+    // Nothing is read where the file is not opened, and nothing is written or flushed where the file has no
     // image.
     (
         Some(&["macho-check", "check", "none"]),

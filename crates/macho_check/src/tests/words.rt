@@ -4,7 +4,7 @@ use super::same;
 use macho_program::{Request, WordFault, parse_words, read_number};
 use std::process::Abort;
 
-/// Words, and their numbers. Of those that are none, after an empty one come 2^64 and more, 21 decimal
+/// Words, and their numbers. Among those that are not numbers, after an empty one, come 2^64 and more, 21 decimal
 /// digits, and 17 hexadecimal ones.
 const NUMBERS: &[(&str, Option<u64>)] = &[
     ("0", Some(0)),
@@ -123,7 +123,7 @@ fn check_words(
     same(rt, &(words, given), &(words, wanted));
 }
 
-/// Words that are not those of the program.
+/// Words that are not the program's.
 const REFUSED: &[&[&str]] = &[
     &["check"],
     &["where"],
@@ -161,7 +161,7 @@ fn words_that_are_refused(rt: HostRuntime) {
     }
 }
 
-/// Words of which one should be a number, and is none.
+/// Words where one should be a number, and is not.
 const BAD_NUMBERS: &[&[&str]] = &[
     &["where", "a", "0", "0x"],
     &["where", "a", "18446744073709551616", "0"],

@@ -113,7 +113,7 @@ pub(super) fn fat_overlap(entries: Entries) -> Result<(), Break>
     Ok(())
 }
 
-// Whether the slice of entry `later` has a byte in common with that of an earlier entry.
+// Whether the slice of entry `later` has a byte in common with the slice of an earlier entry.
 fn shares_with_earlier(entries: Entries, later: u32) -> bool
     requires { later < entry_count (bytes_of entries.file) }
     ensures { IsTrue result ↔ OverlapsEarlierSlice (bytes_of entries.entry.file) later }

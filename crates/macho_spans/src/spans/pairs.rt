@@ -54,7 +54,7 @@ impl CountedPairs {
     ghost use Rattle.macho_spans.specs.SearchSteps.{IsBegun, IsRaised};
     ghost use Rattle.macho_spans.specs.Span.{Holds, Shares};
 
-    // The pairs of the list, of which nothing was counted.
+    // The pairs of the list, before any is counted.
     fn counting(pairs: Vec<(Span, u64)>) -> CountedPairs
         ensures pairs { result.pairs ≡ pairs }
         ensures probes { (result.probes.call ≡ 0) × (result.probes.all ≡ 0) }
@@ -161,7 +161,7 @@ impl CountedPairs {
         }
     }
 
-    // Puts a pair before the one at the index, or last. If there is no room it allocates as
+    // Puts a pair before the one at the index, or last. Without room it allocates as
     // `make_room` does.
     pub(super) fn insert(&mut self, index: usize, span: Span, tag: u64) -> Result<(), AllocError>
         requires { index ≤ length self.old.pairs.items }

@@ -21,7 +21,7 @@ pub(crate) enum Fault {
     Changed,
     /// A run read or wrote no further.
     Run(RunFault),
-    /// There is no such call, its input cannot be had, or its answer cannot be printed.
+    /// No call has the name, its input cannot be had, or its answer cannot be printed.
     NoCall,
 }
 

@@ -1,26 +1,31 @@
-use Rattle.std.proofs.Common.{◌≡◌, ◌∙◌, None, Some, ap₂}
-use Rattle.macho_rows.specs.BoundedTables.{found_table}
+use Rattle.std.proofs.Common.{◌≡◌, ◌∙◌, ℕ, List, Option, None, Some, refl, sym, subst, ap₂}
+use Rattle.std.specs.Prelude.{MatchOption}
+use Rattle.std.specs.Option.{option_and_then}
+use Rattle.macho_fields.specs.Layers.{NothingBreaks}
+use Rattle.macho_fields.specs.Rules.{BreaksImage}
+use Rattle.macho_rows.specs.BoundedTables.{found_table, IsWhole}
 use Rattle.macho_rows.specs.Image.{image_in}
 use Rattle.macho_rows.specs.Spans.{span_at}
-use Rattle.macho_rows.specs.Status.{KESVUOT_OK, KESVUOT_NONE}
-use Rattle.macho_rows.proofs.BoundedTables.{answers, is_whole}
+use Rattle.macho_rows.specs.declared.bounded_tables.BoundedTable.{BoundedTable}
+use Rattle.macho_rows.proofs.BoundedTables.{is_whole}
+use Rattle.macho_c.specs.Status.{Answers}
+use Rattle.macho_c.specs.Tables.{table_numbered, found_numbered, IsWholeNumbered}
 use Rattle.macho_c.proofs.tables.kesvuot_find_table.Goals as goal
 
-pub returns-in-Some : goal.returns-in-Some
-returns-in-Some c =
-    let row = c.args.image.now in
-    let image = image_in c.args.file.now row in
-    let found = c.in-Some.found in
-    let is : Some found ≡ found_table row.slice.offset image c.args.table =
-    c.in-Some.ensures ∙ ap₂ (λ place bytes. found_table place bytes c.args.table) c.held-held.ensures.place c.held-held.ensures.bytes in
-    let answer = answers image row.slice.offset c.args.table (Some found) is in
-    record { answer = answer; whole = λ unbroken. is_whole image unbroken row.slice.offset KESVUOT_OK found c.args.table answer }
+whole_numbered : (image : List ℕ) → NothingBreaks (BreaksImage image None) → (place number : ℕ) → IsWholeNumbered image place number (found_numbered place image number)
+whole_numbered image unbroken place number = by (table_numbered number)
+  where
+    by : (o : Option BoundedTable) → MatchOption o (option_and_then (found_table place image) o ≡ None) (λ which. IsWhole image place which (option_and_then (found_table place image) o))
+    by None = refl
+    by (Some which) = is_whole image unbroken place which
 
-pub returns-in-None : goal.returns-in-None
-returns-in-None c =
+pub returns : goal.returns
+returns c =
     let row = c.args.image.now in
     let image = image_in c.args.file.now row in
-    let is : None ≡ found_table row.slice.offset image c.args.table =
-    c.in-None.ensures ∙ ap₂ (λ place bytes. found_table place bytes c.args.table) c.held-held.ensures.place c.held-held.ensures.bytes in
-    let answer = answers image row.slice.offset c.args.table None is in
-    record { answer = answer; whole = λ unbroken. is_whole image unbroken row.slice.offset KESVUOT_NONE (span_at 0 0) c.args.table answer }
+    let is : c.found_numbered.result ≡ found_numbered row.slice.offset image c.args.table =
+    c.found_numbered.ensures ∙ ap₂ (λ place bytes. found_numbered place bytes c.args.table) c.held.ensures.place c.held.ensures.bytes in
+    record {
+      answer = subst (Answers (span_at 0 0) c.answer.result c.answer.new.written) is c.answer.ensures;
+      whole = λ unbroken. (c.found_numbered.result, subst (IsWholeNumbered image row.slice.offset c.args.table) (sym is) (whole_numbered image unbroken row.slice.offset c.args.table), c.answer.ensures);
+    }

@@ -5,7 +5,7 @@ use Rattle.macho_commands.specs.States.{state_end, IsRegisterState}
 use Rattle.macho_commands.proofs.ThreadStates.{IsLeft}
 use Rattle.macho_commands.proofs.states.register_state.Given as goal
 
--- the states from here on, with the one that was found, are those of the thread
+-- the states from here on, with the state that was found, belong to the thread
 abbrev pub invariant-loop-state : goal.invariant-loop-state
 invariant-loop-state l = record {
   within : l.state ≤ length (bytes_of l.command);

@@ -22,6 +22,9 @@ returns c =
         file_start = ap (λ (r : KesvuotSection). r.offset) row;
         relocs = ap (λ (r : KesvuotSection). r.reloff) row;
         reloc_count = ap (λ (r : KesvuotSection). r.nreloc) row;
+        flags = ap (λ (r : KesvuotSection). r.flags) row;
+        reserved1 = ap (λ (r : KesvuotSection). r.reserved1) row;
+        reserved2 = ap (λ (r : KesvuotSection). r.reserved2) row;
       };
       at = when_some (λ k. IsSectionAt image k c.args.place) (walked.sections + nth) c.section_index.result c.section_index.ensures
           (walked.index, walked.load.place, nth, c.requires.listed, less, ap (λ n. n + nth) c.requires.sections, omega (arith, from), omega (arith, from));

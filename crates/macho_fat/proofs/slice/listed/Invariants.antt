@@ -4,7 +4,7 @@ use Rattle.std.specs.Vec.{vec_len, vec_capacity}
 use Rattle.macho_fat.proofs.Listed.{AreFirst}
 use Rattle.macho_fat.proofs.slice.listed.Given as goal
 
--- the slices are those of the entries gone over, and there is room for one of each entry
+-- the slices belong to the entries gone over, and there is room for one of each entry
 abbrev pub invariant-loop-k : goal.invariant-loop-k
 invariant-loop-k l = record {
   first : AreFirst l.table l.k l.slices.items;

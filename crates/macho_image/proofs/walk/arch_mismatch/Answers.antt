@@ -8,7 +8,7 @@ use Rattle.macho_fields.specs.declared.rule.Rule.TheVariants as rule
 use Rattle.macho_image.proofs.KeptRules.{has_header, header_kept, header_broken}
 use Rattle.macho_image.proofs.walk.arch_mismatch.Goals as goal
 
--- the architecture is not that of the image
+-- the architecture is not the image's
 abbrev IsOther : List ℕ → ℕ × ℕ → Type 0
 IsOther image pair = (pair.0 ≢ cpu_type image) ⊎ (masked pair.1 ≢ masked (cpu_subtype image))
 

@@ -13,7 +13,7 @@ use Rattle.macho_opcodes.specs.declared.streams.Stream.{Stream}
 use Rattle.macho_opcodes.proofs.TableSurveys.{survey_fits, least_in_table, none_in_table, stream_inside, fields_inside}
 use Rattle.macho_opcodes.proofs.streams.survey_of.Goals as goal
 
--- the table that was read is that of the stream
+-- the table that was read is the stream's
 is_table : (image : List ℕ) (command : ℕ) (stream : Stream) (fields : TableFields) (table : Span) → fields ≡ fields_of stream → table ≡ bytes_of_table (table_at image command fields)
     → table ≡ bytes_of_table (table_at image command (fields_of stream))
 is_table image command stream fields table same is = is ∙ ap (λ (f : TableFields). bytes_of_table (table_at image command f)) same

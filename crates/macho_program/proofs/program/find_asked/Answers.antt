@@ -43,7 +43,7 @@ is_standard name file eq name_is eq_is holds = ap (λ (n : List ℕ). bytes_eq n
 is_named : (name : List ℕ) → bytes_eq name (codes "-") ≡ true → name ≡ codes "-"
 is_named name = (bytes_eq-Decides name (codes "-")).0
 
--- what is found of the bytes that a file gives, where those of its name are known
+-- what is found of the bytes that a file gives, where the bytes of its name are known
 found_in : {J : Type 0} (j : judge.Ghosts J) (asked : Asked J) (known given old new : Option (List ℕ)) (end : Result Found ProgramFault) → IfSome known (λ all. given ≡ Some all)
     → IfOk end (λ what. WroteFound j asked given what old new) → IfOk end (λ what. WroteFound j asked known what old new)
 found_in j asked (Some all) given old new end is wrote = rw is at wrote

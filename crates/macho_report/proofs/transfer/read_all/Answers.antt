@@ -20,7 +20,7 @@ consumed_next : (all left rest : Option (List ℕ)) (bytes piece more new : List
 consumed_next all left rest bytes piece more new n within is first second =
     subst (Consumes all rest) (ap (λ l. bytes ++ l) (sym (take-append-le n piece more within)) ∙ sym is) (Consumes-trans all left rest bytes (take n piece) first second)
 
--- of those together no more were taken than there was room for
+-- both together took no more bytes than there was room for
 took_both : (all left rest : Option (List ℕ)) (bytes piece : List ℕ) (n limit : ℕ) → Consumes all left bytes → Consumes left rest (take n piece)
     → length bytes + n ≤ limit → TookAtMost limit all rest
 took_both None left rest bytes piece n limit first second room = tt

@@ -3,7 +3,7 @@ use Rattle.macho_fields.specs.Bytes.{bytes_of}
 use Rattle.macho_rows.specs.Symbols.{name_of}
 use Rattle.macho_rows.proofs.symbols.write_names.Given as goal
 
--- the first names are those of the first symbols, and the others are as they were
+-- the first symbols have the first names, and the others are as they were
 abbrev pub invariant-loop-written : goal.invariant-loop-written
 invariant-loop-written l = record {
   room : l.written ≤ l.count;

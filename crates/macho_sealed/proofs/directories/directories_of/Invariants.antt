@@ -1,6 +1,6 @@
 use Rattle.macho_sealed.specs.Directories.{AreDirectories}
 use Rattle.macho_sealed.proofs.directories.directories_of.Given as goal
 
--- those of the entries before it are there
+-- the directories of the entries before it are there
 abbrev pub invariant-loop-index : goal.invariant-loop-index
 invariant-loop-index l = AreDirectories l.signature.bytes.now l.index l.directories

@@ -3,7 +3,7 @@ use Rattle.macho_sealed.specs.Signature.{IsRepeated}
 use Rattle.macho_sealed.specs.Slots.{AreTaken}
 use Rattle.macho_sealed.proofs.repeated.first_repeated.Given as goal
 
--- the slots of the entries before it are noted, and none of these entries has the slot of an earlier one
+-- the slots of the entries before it are noted, and no such entry has the slot of an earlier one
 abbrev pub invariant-loop-index : goal.invariant-loop-index
 invariant-loop-index l = record {
   taken : AreTaken l.signature.bytes.now l.index l.is_taken;

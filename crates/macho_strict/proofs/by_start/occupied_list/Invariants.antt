@@ -2,7 +2,7 @@ use Rattle.std.proofs.Common.{◌≡◌, ◌+◌, ◌*◌, ◌≤◌, length, ma
 use Rattle.macho_strict.specs.Passed.{occupied}
 use Rattle.macho_strict.proofs.by_start.occupied_list.Given as goal
 
--- the spans are those of the elements that were yielded and have bytes
+-- the spans belong to the elements that were yielded and have bytes
 abbrev pub invariant-loop-element : goal.invariant-loop-element
 invariant-loop-element g l = record {
   spans : l.list.spans ≡ occupied (map (λ element. element.span) l.yielded);

@@ -7,7 +7,7 @@ use Rattle.macho_strict.proofs.gaps.first_unpadded.Given as goal
 abbrev pub invariant-loop-start : goal.invariant-loop-start
 invariant-loop-start l = record {
   after : l.initial.start ≤ l.start;
-  none : (place : ℕ) → l.initial.start ≤ place → place < l.start → ¬ IsUnpadded l.code (bytes_of l.bytes) place;
+  none : (place : ℕ) → l.initial.start ≤ place → place < l.start → ¬ IsUnpadded l.cpu l.code (bytes_of l.bytes) place;
 }
 
 abbrev pub decreases-loop-start : goal.decreases-loop-start

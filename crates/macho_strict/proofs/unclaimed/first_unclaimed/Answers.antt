@@ -1,9 +1,12 @@
-use Rattle.std.proofs.Common.{◌≡◌, ◌≢◌, ◌<◌, ℕ, List, length, Option, Some, slice_index, sym, ap, ◌∙◌, subst, lit<}
+use Rattle.std.proofs.Common.{◌≡◌, ◌<◌, ℕ, List, length, Bool, Option, Some, sym, ap, ◌∙◌, subst, lit<}
+use Rattle.macho_fields.specs.Bytes.{bytes_of}
 use Rattle.macho_fields.specs.FirstPlace.{IsLeastPlace}
+use Rattle.macho_fields.specs.Image.{cpu_type}
 use Rattle.macho_fields.specs.Layers.{KeptBelow}
 use Rattle.macho_fields.specs.RuleList.{rank}
 use Rattle.macho_fields.specs.declared.rule.Rule.TheVariants as rule
-use Rattle.macho_strict.specs.Gaps.{IsStray}
+use Rattle.macho_strict.specs.Gaps.{IsFree, IsStray, IsUnpadded}
+use Rattle.macho_strict.specs.Nops.{is_nop}
 use Rattle.macho_strict.specs.Rules.{BreaksStrictImage}
 use Rattle.macho_strict.specs.Verdict.{element_spans}
 use Rattle.macho_strict.specs.declared.gaps.Wanted.TheVariants as wanted
@@ -21,8 +24,12 @@ module _ (image : List ℕ) (kept : KeptBelow (BreaksStrictImage image) (rank ru
 at_place : (image : List ℕ) (first : Option ℕ) (p : ℕ) → first ≡ Some p → IsLeastPlace (IsStray wanted.NonZero image (element_spans image)) first → IsLeastPlace (IsStray wanted.NonZero image (element_spans image)) (Some p)
 at_place image first p is least = subst (IsLeastPlace (IsStray wanted.NonZero image (element_spans image))) is least
 
-pub read_u8-requires : goal.read_u8-requires
-read_u8-requires c =
+-- what was asked of the bytes that were read, by the processor in their header, is so of the image
+nop_at : (image : List ℕ) (cpu : ℕ) → cpu ≡ cpu_type image → (bytes : List ℕ) → bytes ≡ image → (p : ℕ) (test : Bool) → test ≡ is_nop cpu bytes p → is_nop (cpu_type image) image p ≡ test
+nop_at image cpu same bytes are p test is = ap (λ n. is_nop n image p) (sym same) ∙ (ap (λ these. is_nop cpu these p) (sym are) ∙ sym is)
+
+pub is_nop-requires : goal.is_nop-requires
+is_nop-requires c =
     let least = at_place c.args.image.now c.args.claims.now.loose c.in-Some.place c.in-Some.is c.requires.claims.loose in
     subst (λ (bytes : List ℕ). c.in-Some.place < length bytes) (sym c.bytes.ensures.bytes) least.0.0.0
 
@@ -35,18 +42,17 @@ pub returns-in_err-code-clause-memory : goal.returns-in_err-code-clause-memory
 returns-in_err-code-clause-memory c =
     let image = c.args.image.now in
     let least = at_place image c.args.claims.now.loose c.in-Some.place c.in-Some.is c.requires.claims.loose in
-    let byte : slice_index image c.in-Some.place ≡ 0x90 = ap (λ (bytes : List ℕ). slice_index bytes c.in-Some.place) (sym c.bytes.ensures.bytes) ∙ (sym c.read_u8.ensures ∙ c.if-read_u8.false) in
-    on_err c.from_residual.result (c.in-Some.place, byte, least.0.1)
+    on_err c.from_residual.result (c.in-Some.place, nop_at image c.arch-cpu.result.0 c.arch-cpu.ensures.cpu_type (bytes_of c.bytes.result) c.bytes.ensures.bytes c.in-Some.place c.is_nop.result c.is_nop.ensures ∙ c.if-not-is_nop.false, least.0.1)
 
 pub returns-clause-found : goal.returns-clause-found
 returns-clause-found c =
     let image = c.args.image.now in
-    least_unpadded image (keeps_stray image c.requires.kept) (keeps_apart image c.requires.kept) c.in_ok-code.code c.in_ok-code.ensures.cover c.stray.result c.stray.ensures
+    least_unpadded image (keeps_stray image c.requires.kept) (keeps_apart image c.requires.kept) c.in_ok-code.code c.in_ok-code.ensures.cover c.stray.result
+    (subst (λ cpu. IsLeastPlace (λ p. IsUnpadded cpu c.in_ok-code.code image p × IsFree (element_spans image) p) c.stray.result) c.arch-cpu.ensures.cpu_type c.stray.ensures)
 
-pub returns-then-read_u8-clause-found : goal.returns-then-read_u8-clause-found
-returns-then-read_u8-clause-found c =
+pub returns-then-not-is_nop-clause-found : goal.returns-then-not-is_nop-clause-found
+returns-then-not-is_nop-clause-found c =
     let image = c.args.image.now in
     let least = at_place image c.args.claims.now.loose c.in-Some.place c.in-Some.is c.requires.claims.loose in
-    let other : slice_index image c.in-Some.place ≢ 0x90 =
-    λ same. c.if-read_u8.true (c.read_u8.ensures ∙ (ap (λ (bytes : List ℕ). slice_index bytes c.in-Some.place) c.bytes.ensures.bytes ∙ same)) in
-    first_loose image (keeps_stray image c.requires.kept) (keeps_apart image c.requires.kept) c.in-Some.place other least
+    let other = nop_at image c.arch-cpu.result.0 c.arch-cpu.ensures.cpu_type (bytes_of c.bytes.result) c.bytes.ensures.bytes c.in-Some.place c.is_nop.result c.is_nop.ensures in
+    first_loose image (keeps_stray image c.requires.kept) (keeps_apart image c.requires.kept) c.in-Some.place (other ∙ c.if-not-is_nop.true) least

@@ -4,7 +4,7 @@ use Rattle.macho_strict.specs.Passed.{occupied}
 use Rattle.macho_strict.specs.Unclaimed.{code_among}
 use Rattle.macho_strict.proofs.unclaimed.push_code.Given as goal
 
--- the bytes of those of these segments that may be executed were added, of those that have some
+-- the bytes of each passed segment that may be executed, and has some, were added
 abbrev pub invariant-loop-segment : goal.invariant-loop-segment
 invariant-loop-segment l =
     (seen : List SegmentView) × (l.initial.segment-iterator ≡ seen ++ l.segment-iterator)

@@ -3,7 +3,7 @@ use Rattle.macho_symbols.specs.declared.relocations.Owner.TheVariants as owners
 use Rattle.macho_symbols.proofs.RelocationWalks.{AreSearched}
 use Rattle.macho_symbols.proofs.relocations.of_sections.Given as goal
 
--- the least place is that of the sections that were passed
+-- the least place is in the sections that were passed
 abbrev pub invariant-loop-section : goal.invariant-loop-section
 invariant-loop-section l =
     (goal.iterator-loop-section).can_next l.section-iterator × (goal.iterator-loop-section).is_finite l.section-iterator

@@ -5,7 +5,7 @@ use Rattle.macho_tables.specs.DataInCode.{entry_at, entry_place, entry_count, Is
 use Rattle.macho_tables.proofs.DataInCode.{first_bad_entry, no_bad_entry}
 use Rattle.macho_tables.proofs.data_in_code.first_bad.Goals as goal
 
--- the size is a multiple of that of an entry
+-- the size is a multiple of an entry's
 no_rest : (table : List ℕ) (size : ℕ) → size ≡ length table → size % 8 ≡ 0 → ¬ HasRest table
 no_rest table size is none rest = rest (ap (λ n. n % 8) (sym is) ∙ none)
 

@@ -15,7 +15,7 @@ pub span_of-table-requires-clause-count : goal.span_of-table-requires-clause-cou
 span_of-table-requires-clause-count c =
     rw c.bounded_at.ensures (data_fields_inside c.args.image.now c.args.cmd c.requires.cmd c.in_ok-command.command (sym c.first_place.ensures ∙ c.in_ok-command.was) c.requires.unbroken).1
 
--- the table that was read is the one that the command names
+-- the table that was read is the table that the command names
 is_table : (image : List ℕ) (command : ℕ) (fields : TableFields) (table : Span) → fields ≡ linkedit_data_table → table ≡ bytes_of_table (table_at image command fields)
     → table ≡ bytes_of_table (table_at image command linkedit_data_table)
 is_table image command fields table same is = is ∙ ap (λ (f : TableFields). bytes_of_table (table_at image command f)) same

@@ -1,7 +1,7 @@
 use Rattle.std.proofs.Common.{sym, subst, rules, tests}
 use Rattle.macho_fields.specs.FirstPlace.{IsLeastPlace}
 use Rattle.macho_image.specs.Command.{CommandView}
-use Rattle.macho_tables.specs.Homes.{HasHomeless, BreaksTableHome}
+use Rattle.macho_tables.specs.Homes.{HasLost, BreaksTableHome}
 use Rattle.macho_tables.proofs.Found.{each_command, first_command}
 use Rattle.macho_tables.proofs.homes.table_home.Goals as goal
 
@@ -11,5 +11,5 @@ find-requires-clause-callable c = each_command c.args.image.now c.commands.ensur
 pub returns : goal.returns
 returns c =
     subst (IsLeastPlace (BreaksTableHome c.args.image.now)) (sym c.place_of.ensures)
-    (first_command c.args.image.now c.commands.ensures.opened c.commands.ensures.commands _ (λ (v : CommandView). HasHomeless c.args.image.now v.place) c.find.result c.find.ensures.ran
+    (first_command c.args.image.now c.commands.ensures.opened c.commands.ensures.commands _ (λ (v : CommandView). HasLost c.args.image.now v.place) c.find.result c.find.ensures.ran
     (λ y b q k. search (rules, tests)))

@@ -17,7 +17,7 @@ span_of-span-requires-clause-place c = rw c.bounded_at.ensures (chain_fields_ins
 pub span_of-span-requires-clause-count : goal.span_of-span-requires-clause-count
 span_of-span-requires-clause-count c = rw c.bounded_at.ensures (chain_fields_inside c.args.image.now c.args.command c.requires.named c.requires.unbroken).1
 
--- the table that was read is the one that the command names
+-- the table that was read is the table that the command names
 is_table : (image : List ℕ) (command : ℕ) (fields : TableFields) (table : Span) → fields ≡ linkedit_data_table → table ≡ bytes_of_table (table_at image command fields)
     → table ≡ bytes_of_table (table_at image command linkedit_data_table)
 is_table image command fields table same is = is ∙ ap (λ (f : TableFields). bytes_of_table (table_at image command f)) same

@@ -2,7 +2,7 @@ use Rattle.std.proofs.Common.{◌≡◌, ◌-◌, ◌≤◌, length, None, IfSom
 use Rattle.macho_exports.proofs.ExportTries.{follow_from}
 use Rattle.macho_exports.proofs.export_trie.ExportNode.follow.Given as goal
 
--- the edge that leads on is the one that was found, or else that of the edges that are left
+-- the edge that leads on is the edge that was found, or else one among the edges that are left
 abbrev pub invariant-loop : goal.invariant-loop
 invariant-loop l = record {
   count : l.end ≡ l.fn.self.edge_count;

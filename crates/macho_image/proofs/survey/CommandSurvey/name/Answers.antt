@@ -9,7 +9,7 @@ use Rattle.macho_image.proofs.KeptRules.{none_short}
 use Rattle.macho_image.proofs.Surveyed.{first_of_same, judged}
 use Rattle.macho_image.proofs.survey.CommandSurvey.name.Goals as goal
 
--- no command is short, so each bad name is that of a whole command
+-- no command is short, so each bad name belongs to a whole command
 pub returns-clause-decides : goal.returns-clause-decides
 returns-clause-decides c =
     let image = bytes_of c.args.self.now.candidate.bytes in

@@ -1,6 +1,6 @@
 use Rattle.macho_rules.proofs.slow.sections.judge_sections.Goals as goal
 
--- What an image breaks of these rules computes to what its sections break. By hand, since a search opens both sides.
+-- What an image breaks among these rules computes to what its sections break. By hand, since a search opens both sides.
 pub judge-requires-clause-sections : goal.judge-requires-clause-sections
 judge-requires-clause-sections c place = (λ h. h, λ h. h)
 

@@ -1,6 +1,6 @@
 use Rattle.macho_rules.proofs.slow.segments.judge_segments.Goals as goal
 
--- What an image breaks of these rules computes to what its segments break. By hand, since a search opens both sides.
+-- What an image breaks among these rules computes to what its segments break. By hand, since a search opens both sides.
 pub judge-requires-clause-segments : goal.judge-requires-clause-segments
 judge-requires-clause-segments c place = (λ h. h, λ h. h)
 

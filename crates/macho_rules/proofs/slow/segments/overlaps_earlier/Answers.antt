@@ -6,7 +6,7 @@ use Rattle.macho_rules.proofs.Searches.{first_among, search_next, not_before, no
 use Rattle.macho_rules.proofs.SegmentItems.{segments_search, segment_image, some_segment, of_segment, SharesBefore}
 use Rattle.macho_rules.proofs.slow.segments.overlaps_earlier.Goals as goal
 
--- what is so of the bytes of the image is so of those of the segment, which are the same
+-- what is so of the bytes of the image is so of the bytes of the segment, which are the same
 of_image : {bytes image : List ℕ} {result : Bool} {place : ℕ} → bytes ≡ image → (IsTrue result ↔ OverlapsEarlier image (commands_of image) place)
     → (IsTrue result ↔ OverlapsEarlier bytes (commands_of bytes) place)
 of_image {result = result} {place = place} is answered = subst (λ (bytes : List ℕ). IsTrue result ↔ OverlapsEarlier bytes (commands_of bytes) place) (sym is) answered
