@@ -14,8 +14,8 @@ _kesvuot() {
                 words="check explain show diff map --help --version"
             elif [[ $current == -* ]]; then
                 case ${COMP_WORDS[1]} in
-                    check) words="--exclude --format --help --include --jobs --mmap --no-progress --profile --quiet
-                        --skip-other-kinds" ;;
+                    check) words="--exclude --format --help --include --jobs --mmap --no-progress
+                        --no-unsupported-slices --profile --quiet --skip-other-kinds" ;;
                     explain | show) words="--help --json --profile" ;;
                     diff) words="--help --profile" ;;
                     map) words="--help --output --profile" ;;

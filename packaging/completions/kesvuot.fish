@@ -17,6 +17,7 @@ complete -c kesvuot -n '__fish_seen_subcommand_from check' -l format -x -a 'text
 complete -c kesvuot -n '__fish_seen_subcommand_from check' -l include -x -d 'In folders, judge only such names'
 complete -c kesvuot -n '__fish_seen_subcommand_from check' -l exclude -x -d 'In folders, leave out such names'
 complete -c kesvuot -n '__fish_seen_subcommand_from check' -l skip-other-kinds -d 'Skip refused files of another kind'
+complete -c kesvuot -n '__fish_seen_subcommand_from check' -l no-unsupported-slices -d 'Refuse slices that are not judged'
 complete -c kesvuot -n '__fish_seen_subcommand_from check' -l jobs -x -d 'How many processes judge'
 complete -c kesvuot -n '__fish_seen_subcommand_from check' -l mmap -d 'Map files to which nobody else can write'
 complete -c kesvuot -n '__fish_seen_subcommand_from check' -s q -l quiet -d 'Print only files that are not accepted'
