@@ -942,11 +942,18 @@ uint32_t kesvuot_find_address(const void *file, size_t size, const struct kesvuo
 #define KESVUOT_MH_DYLIB 6
 #define KESVUOT_MH_BUNDLE 8
 
-/* The type in the flags of a section: those of zero-fill sections. (mach-o/loader.h) */
+/* The type in the flags of a section, and the types of zero-fill sections. (mach-o/loader.h) */
 #define KESVUOT_SECTION_TYPE 0xff
 #define KESVUOT_S_ZEROFILL 0x1
 #define KESVUOT_S_GB_ZEROFILL 0xc
 #define KESVUOT_S_THREAD_LOCAL_ZEROFILL 0x12
+
+/* The types of sections whose items have indirect entries. (mach-o/loader.h) */
+#define KESVUOT_S_NON_LAZY_SYMBOL_POINTERS 0x6
+#define KESVUOT_S_LAZY_SYMBOL_POINTERS 0x7
+#define KESVUOT_S_SYMBOL_STUBS 0x8
+#define KESVUOT_S_LAZY_DYLIB_SYMBOL_POINTERS 0x10
+#define KESVUOT_S_THREAD_LOCAL_VARIABLE_POINTERS 0x14
 
 /* The marks of an indirect entry. (mach-o/loader.h) */
 #define KESVUOT_INDIRECT_SYMBOL_LOCAL 0x80000000

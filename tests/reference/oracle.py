@@ -1544,8 +1544,8 @@ def data_in_code(image):
             return
 
 def init_offset(image):
-    """The size of the section is no multiple of 4, at the last offset, which is cut; or the base + the offset is in no
-    file part that is mapped and executable."""
+    """The size of the section is not a multiple of 4, so the last offset is cut; or the base plus the offset is not in the
+    file part of a mapped and executable segment."""
     # No two segments share an address, so of those that begin at the address or before it only the last can have it.
     code = sorted((segment for segment in image.segments if is_mapped(segment) and segment.initprot & VM_PROT_EXECUTE),
                   key=lambda segment: segment.vmaddr)

@@ -80,11 +80,18 @@ MH_EXECUTE = 2
 MH_DYLIB = 6
 MH_BUNDLE = 8
 
-# The type in the flags of a section: those of zero-fill sections. (mach-o/loader.h)
+# The type in the flags of a section, and the types of zero-fill sections. (mach-o/loader.h)
 SECTION_TYPE = 0xff
 S_ZEROFILL = 0x1
 S_GB_ZEROFILL = 0xc
 S_THREAD_LOCAL_ZEROFILL = 0x12
+
+# The types of sections whose items have indirect entries. (mach-o/loader.h)
+S_NON_LAZY_SYMBOL_POINTERS = 0x6
+S_LAZY_SYMBOL_POINTERS = 0x7
+S_SYMBOL_STUBS = 0x8
+S_LAZY_DYLIB_SYMBOL_POINTERS = 0x10
+S_THREAD_LOCAL_VARIABLE_POINTERS = 0x14
 
 # The marks of an indirect entry. (mach-o/loader.h)
 INDIRECT_SYMBOL_LOCAL = 0x80000000

@@ -82,11 +82,18 @@ pub const MH_EXECUTE: u32 = 2;
 pub const MH_DYLIB: u32 = 6;
 pub const MH_BUNDLE: u32 = 8;
 
-// The type in the flags of a section: those of zero-fill sections. (mach-o/loader.h)
+// The type in the flags of a section, and the types of zero-fill sections. (mach-o/loader.h)
 pub const SECTION_TYPE: u32 = 0xff;
 pub const S_ZEROFILL: u32 = 0x1;
 pub const S_GB_ZEROFILL: u32 = 0xc;
 pub const S_THREAD_LOCAL_ZEROFILL: u32 = 0x12;
+
+// The types of sections whose items have indirect entries. (mach-o/loader.h)
+pub const S_NON_LAZY_SYMBOL_POINTERS: u32 = 0x6;
+pub const S_LAZY_SYMBOL_POINTERS: u32 = 0x7;
+pub const S_SYMBOL_STUBS: u32 = 0x8;
+pub const S_LAZY_DYLIB_SYMBOL_POINTERS: u32 = 0x10;
+pub const S_THREAD_LOCAL_VARIABLE_POINTERS: u32 = 0x14;
 
 // The marks of an indirect entry. (mach-o/loader.h)
 pub const INDIRECT_SYMBOL_LOCAL: u32 = 0x8000_0000;

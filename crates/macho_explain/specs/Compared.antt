@@ -27,7 +27,6 @@ use Rattle.macho_fields.specs.declared.header.fixup_chains.TheConstants as chain
 use Rattle.macho_spans.specs.Span.{end_of}
 use Rattle.macho_spans.specs.declared.span.Span.{Span}
 use Rattle.macho_symbols.specs.Indirects.{indirect_count}
-use Rattle.macho_tables.specs.declared.init_offsets.TheConstants as init
 use Rattle.macho_symbols.specs.Nlist.{library_ordinal}
 use Rattle.macho_symbols.specs.Reloc.{relocation_at}
 use Rattle.macho_symbols.specs.declared.reloc.Relocation.{Relocation}
@@ -103,7 +102,7 @@ IsRestShown image c =
 -- the size of an offset of an initializer, which is cut; or the address to which it leads
 abbrev pub IsInitializerShown : List ℕ → ℕ → Conflict → Type 0
 IsInitializerShown image place c =
-    (c.limit ≡ init.INIT_OFFSET_SIZE)
+    (c.limit ≡ loader.INIT_OFFSET_SIZE)
     ⊎ IsSomeAnd (base_of image (commands_of image)) (λ base. c.value ≡ written (base + word_at image place))
 
 -- the kind of an entry of data in code, and the last one that has a meaning; or where its bytes end

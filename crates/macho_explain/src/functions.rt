@@ -16,12 +16,13 @@ use crate::sliced::Sliced;
 use crate::table::Bounded;
 use crate::whole::whole_table;
 use macho_fields::header::loader::{
-    DATA_IN_CODE_ENTRY_SIZE, DICE_KIND_ABS_JUMP_TABLE32, LC_DATA_IN_CODE, LC_FUNCTION_STARTS,
+    DATA_IN_CODE_ENTRY_SIZE, DICE_KIND_ABS_JUMP_TABLE32, INIT_OFFSET_SIZE, LC_DATA_IN_CODE,
+    LC_FUNCTION_STARTS,
 };
 use macho_fields::{Bytes, Span};
 use macho_image::Image;
 use macho_tables::data_in_code::{DataInCodeEntry, is_known_kind};
-use macho_tables::init_offsets::{INIT_OFFSET_SIZE, has_offsets};
+use macho_tables::init_offsets::has_offsets;
 use macho_tables::numbers::read_uleb;
 
 // The byte at the place: no number begins there, or it is past the last one and not 0.

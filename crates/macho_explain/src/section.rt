@@ -17,11 +17,13 @@ use crate::spot::Spot;
 use crate::table::indirects;
 use crate::walk::{Sought, Walked, walk_to};
 use macho_fields::Span;
-use macho_fields::header::loader::{SECTION_64_SIZE, SECTION_TYPE, SEGMENT_COMMAND_64_SIZE};
+use macho_fields::header::loader::{
+    S_SYMBOL_STUBS, SECTION_64_SIZE, SECTION_TYPE, SEGMENT_COMMAND_64_SIZE,
+};
 use macho_fields::header::reloc::RELOCATION_INFO_SIZE;
 use macho_rows::sections::{KesvuotSection, nsects_at, row_of};
 use macho_rows::segments::last_address;
-use macho_symbols::indirects::{S_SYMBOL_STUBS, indirect_count};
+use macho_symbols::indirects::indirect_count;
 use macho_tables::limits::POINTER_SIZE;
 
 // A section: where its structure begins, its index among the sections, its fields, and its segment.
@@ -177,7 +179,7 @@ impl SectionAt {
     fn stride(&self) -> u64
         ensures { (image : List ℕ) → IsSectionRow image self.now → result ≡ stride_of image self.now.place }
     {
-        if u64::from(self.row.flags & SECTION_TYPE) == S_SYMBOL_STUBS {
+        if self.row.flags & SECTION_TYPE == S_SYMBOL_STUBS {
             u64::from(self.row.reserved2)
         } else {
             POINTER_SIZE

@@ -121,6 +121,16 @@ pub record AreLoaderConstants : Type 0 where
   pub S_ZEROFILL : loader.S_ZEROFILL ≡ 0x1
   pub S_GB_ZEROFILL : loader.S_GB_ZEROFILL ≡ 0xc
   pub S_THREAD_LOCAL_ZEROFILL : loader.S_THREAD_LOCAL_ZEROFILL ≡ 0x12
+  -- the types whose items have indirect entries: pointers that are bound at once, or when they are first used; stubs;
+  -- pointers into libraries that are loaded late, and to variables of each thread
+  pub S_NON_LAZY_SYMBOL_POINTERS : loader.S_NON_LAZY_SYMBOL_POINTERS ≡ 0x6
+  pub S_LAZY_SYMBOL_POINTERS : loader.S_LAZY_SYMBOL_POINTERS ≡ 0x7
+  pub S_SYMBOL_STUBS : loader.S_SYMBOL_STUBS ≡ 0x8
+  pub S_LAZY_DYLIB_SYMBOL_POINTERS : loader.S_LAZY_DYLIB_SYMBOL_POINTERS ≡ 0x10
+  pub S_THREAD_LOCAL_VARIABLE_POINTERS : loader.S_THREAD_LOCAL_VARIABLE_POINTERS ≡ 0x14
+  -- the type whose items are offsets of functions, and the size of one: a number of 32 bits
+  pub S_INIT_FUNC_OFFSETS : loader.S_INIT_FUNC_OFFSETS ≡ 0x16
+  pub INIT_OFFSET_SIZE : loader.INIT_OFFSET_SIZE ≡ 4
   -- the marks of an indirect entry without an index of a symbol
   pub INDIRECT_SYMBOL_LOCAL : loader.INDIRECT_SYMBOL_LOCAL ≡ 0x80000000
   pub INDIRECT_SYMBOL_ABS : loader.INDIRECT_SYMBOL_ABS ≡ 0x40000000

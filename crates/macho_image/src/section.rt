@@ -143,8 +143,8 @@ impl<'a> Section<'a> {
         u64::from(word_in(self.image, self.place, FLAGS))
     }
 
-    /// Its `reserved1`: of symbol pointers and of symbol stubs, the index of the first of their
-    /// indirect entries. No rule checks that there are such entries.
+    /// Its `reserved1`: of symbol pointers and of symbol stubs, the index of their first indirect entry. The linked
+    /// profile checks that each has one.
     pub fn reserved1(&self) -> u64
         ensures number { result ≡ reserved1 self.now.image self.now.place }
         ensures near { result < 2 ^ 32 }
@@ -152,7 +152,7 @@ impl<'a> Section<'a> {
         u64::from(word_in(self.image, self.place, RESERVED1))
     }
 
-    /// Its `reserved2`: of symbol stubs, the size of one in bytes. No rule checks that it is not 0.
+    /// Its `reserved2`: of symbol stubs, the size of one in bytes. The linked profile checks that it is not 0.
     pub fn reserved2(&self) -> u64
         ensures number { result ≡ reserved2 self.now.image self.now.place }
         ensures near { result < 2 ^ 32 }
@@ -171,8 +171,8 @@ impl<'a> Section<'a> {
         )
     }
 
-    // Its type: the low byte of its flags.
-    fn section_type(&self) -> u32
+    /// Its type: the low byte of its flags. (`SECTION_TYPE`)
+    pub fn section_type(&self) -> u32
         ensures { result ≡ section_flags self.now.image self.now.place % 256 }
     {
         word_in(self.image, self.place, FLAGS) & SECTION_TYPE

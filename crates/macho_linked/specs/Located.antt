@@ -12,7 +12,6 @@ use Rattle.macho_tables.specs.FunctionStarts.{function_starts}
 use Rattle.macho_tables.specs.InitOffsets.{HasOffsets, IsCalled, offset_count, offset_place}
 use Rattle.macho_tables.specs.StartNumbers.{IsFileAddress}
 use Rattle.macho_tables.specs.declared.data_in_code.DataInCodeEntry.{DataInCodeEntry}
-use Rattle.macho_tables.specs.declared.init_offsets.TheConstants as init
 use Rattle.macho_spans.specs.declared.span.Span.{Span}
 
 -- the kind of the entry has a meaning, and its bytes, if it has some, are all in the file bytes of one segment
@@ -24,7 +23,7 @@ pub record IsLocatedEntry (image : List ℕ) (entry : DataInCodeEntry) : Type 0 
 -- a section has offsets of initializers, whose offset k is whole and leads to an executable byte of the file
 -- from the base on
 pub record IsLocatedOffset (image : List ℕ) (section k : ℕ) : Type 0 where
-  pub whole : k * init.INIT_OFFSET_SIZE + init.INIT_OFFSET_SIZE ≤ section_size image section
+  pub whole : k * loader.INIT_OFFSET_SIZE + loader.INIT_OFFSET_SIZE ≤ section_size image section
   pub called : IsCalled image (offset_place image section k)
 
 -- of an image

@@ -7,11 +7,11 @@ use Rattle.macho_spans.specs.declared.span.Span.{Span}
 use Rattle.macho_strict.specs.Unclaimed.{is_code}
 use Rattle.macho_tables.specs.Homes.{bytes_of_segment}
 
--- the segment is mapped and may be executed, and it has one of these bytes of the file
+-- The segment is mapped and may be executed, and it shares a byte of the file with the span.
 abbrev pub RunsBytes : Span → List ℕ → ℕ → Type 0
 RunsBytes bytes image segment =
     (0 < vmsize image segment) × (is_code image segment ≡ true) × Shares (bytes_of_segment image segment) bytes
 
--- such a segment of the image is at the place
+-- A segment of the image is at the place, and may execute a byte of the span.
 abbrev pub IsExecutableIn : Span → List ℕ → ℕ → Type 0
 IsExecutableIn bytes image place = Contains (all_segments image) place × RunsBytes bytes image place

@@ -20,7 +20,7 @@ pub(crate) fn first_executable(image: &Image, signature: Span) -> Option<u64>
     None
 }
 
-// Whether the segment is mapped and may be executed, and has one of these bytes of the file.
+// Whether the segment is mapped and may be executed, and shares a byte of the file with the span.
 fn runs_bytes(segment: &Segment, bytes: Span) -> bool
     ensures { IsTrue result ↔ RunsBytes bytes segment.now.image segment.now.place }
 {

@@ -23,23 +23,26 @@ fields_size version =
 abbrev pub version_of : List ℕ → ℕ
 version_of blob = big_word blob 8
 
+abbrev pub word_since : ℕ → ℕ → List ℕ → ℕ
+word_since version offset blob = if nat_le version (version_of blob) then big_word blob offset else 0
+
 abbrev pub scatter_offset : List ℕ → ℕ
-scatter_offset blob = if nat_le cs.CS_SUPPORTSSCATTER (version_of blob) then big_word blob 44 else 0
+scatter_offset blob = word_since cs.CS_SUPPORTSSCATTER 44 blob
 
 abbrev pub team_offset : List ℕ → ℕ
-team_offset blob = if nat_le cs.CS_SUPPORTSTEAMID (version_of blob) then big_word blob 48 else 0
+team_offset blob = word_since cs.CS_SUPPORTSTEAMID 48 blob
 
 abbrev pub code_limit_64 : List ℕ → ℕ
 code_limit_64 blob = if nat_le cs.CS_SUPPORTSCODELIMIT64 (version_of blob) then big_long blob 56 else 0
 
 abbrev pub pre_encrypt_offset : List ℕ → ℕ
-pre_encrypt_offset blob = if nat_le cs.CS_SUPPORTSRUNTIME (version_of blob) then big_word blob 92 else 0
+pre_encrypt_offset blob = word_since cs.CS_SUPPORTSRUNTIME 92 blob
 
 abbrev pub linkage_offset : List ℕ → ℕ
-linkage_offset blob = if nat_le cs.CS_SUPPORTSLINKAGE (version_of blob) then big_word blob 100 else 0
+linkage_offset blob = word_since cs.CS_SUPPORTSLINKAGE 100 blob
 
 abbrev pub linkage_size : List ℕ → ℕ
-linkage_size blob = if nat_le cs.CS_SUPPORTSLINKAGE (version_of blob) then big_word blob 104 else 0
+linkage_size blob = word_since cs.CS_SUPPORTSLINKAGE 104 blob
 
 -- the limit: codeLimit64, or codeLimit, at 32, where that is 0
 abbrev pub code_limit : List ℕ → ℕ

@@ -1,9 +1,9 @@
 //! A code directory, and when it is sound. An offset is one in its blob. (`cs_blobs.h`: `CS_CodeDirectory`)
 
-ghost use Rattle.std.specs.Prelude.{◌≡◌, ◌↔◌, ◌≤◌, length, IsTrue};
+ghost use Rattle.std.specs.Prelude.{◌≡◌, ◌+◌, ◌↔◌, ◌≤◌, length, IsTrue};
 ghost use Rattle.macho_fields.specs.Bytes.{bytes_of};
 ghost use Rattle.macho_fields.specs.Field.{HasZero};
-ghost use Rattle.macho_signature.specs.CodeDirectories.{fields_size as fields_size_of, size_of_hash as size_of_hash_of, slots_of as slots_of_limit, version_of, is_directory as is_directory_of, scatter_offset as scatter_offset_of, team_offset as team_offset_of, pre_encrypt_offset as pre_encrypt_offset_of, linkage_offset as linkage_offset_of, linkage_size as linkage_size_of, code_limit as code_limit_of, HasName};
+ghost use Rattle.macho_signature.specs.CodeDirectories.{fields_size as fields_size_of, size_of_hash as size_of_hash_of, slots_of as slots_of_limit, version_of, is_directory as is_directory_of, word_since as word_since_of, code_limit as code_limit_of, HasName};
 
 use crate::superblob::{MAGIC, word_at};
 use macho_fields::header::cs_blobs::*;
@@ -101,10 +101,10 @@ impl CodeDirectory {
             hash_size: blob.read_u8(HASH_SIZE),
             hash_type: blob.read_u8(HASH_TYPE),
             page_size: blob.read_u8(PAGE_SIZE),
-            team_offset: team_offset(blob),
-            pre_encrypt_offset: pre_encrypt_offset(blob),
-            linkage_offset: linkage_offset(blob),
-            linkage_size: linkage_size(blob),
+            team_offset: word_since(blob, CS_SUPPORTSTEAMID, TEAM_OFFSET),
+            pre_encrypt_offset: word_since(blob, CS_SUPPORTSRUNTIME, PRE_ENCRYPT_OFFSET),
+            linkage_offset: word_since(blob, CS_SUPPORTSLINKAGE, LINKAGE_OFFSET),
+            linkage_size: word_since(blob, CS_SUPPORTSLINKAGE, LINKAGE_SIZE),
         })
     }
 
@@ -213,7 +213,9 @@ pub fn slots_of(page_size: u8, limit: u64) -> u64
 
 // Whether the blob has the magic number, a known version, the fields of that, and no scatter vector.
 fn is_directory(blob: Bytes) -> bool
-    ensures { result ≡ is_directory_of (bytes_of blob.entry) }
+    ensures is { result ≡ is_directory_of (bytes_of blob.entry) }
+    ensures fields { IsTrue result
+        → fields_size_of (version_of (bytes_of blob.entry)) ≤ length (bytes_of blob.entry) }
 {
     if blob.len() < CS_CODE_DIRECTORY_SIZE || word_at(blob, MAGIC) != CSMAGIC_CODEDIRECTORY {
         return false;
@@ -221,65 +223,17 @@ fn is_directory(blob: Bytes) -> bool
     let version = word_at(blob, VERSION);
     version >= CS_EARLIEST_VERSION
         && fields_size(version) <= blob.len()
-        && scatter_offset(blob, version) == 0
+        && word_since(blob, CS_SUPPORTSSCATTER, SCATTER_OFFSET) == 0
 }
 
-// Where the scatter vector begins, or 0 without one.
-fn scatter_offset(blob: Bytes, version: u32) -> u32
-    requires version { version ≡ version_of (bytes_of blob) }
-    requires fields { fields_size_of version ≤ length (bytes_of blob) }
-    ensures { result ≡ scatter_offset_of (bytes_of blob.entry) }
+// The word at an offset, which a directory has since a version. It is 0 in one of an earlier version.
+fn word_since(blob: Bytes, version: u32, offset: u64) -> u32
+    requires fields { fields_size_of (version_of (bytes_of blob)) ≤ length (bytes_of blob) }
+    requires since { offset + 4 ≤ fields_size_of version }
+    ensures { result ≡ word_since_of version offset (bytes_of blob.entry) }
 {
-    if version >= CS_SUPPORTSSCATTER {
-        word_at(blob, SCATTER_OFFSET)
-    } else {
-        0
-    }
-}
-
-// Where the team begins, or 0 without one.
-fn team_offset(blob: Bytes) -> u32
-    requires { IsTrue (is_directory_of (bytes_of blob)) }
-    ensures { result ≡ team_offset_of (bytes_of blob.entry) }
-{
-    if word_at(blob, VERSION) >= CS_SUPPORTSTEAMID {
-        word_at(blob, TEAM_OFFSET)
-    } else {
-        0
-    }
-}
-
-// Where the hashes of the code before it was encrypted begin, or 0 if there are none.
-fn pre_encrypt_offset(blob: Bytes) -> u32
-    requires { IsTrue (is_directory_of (bytes_of blob)) }
-    ensures { result ≡ pre_encrypt_offset_of (bytes_of blob.entry) }
-{
-    if word_at(blob, VERSION) >= CS_SUPPORTSRUNTIME {
-        word_at(blob, PRE_ENCRYPT_OFFSET)
-    } else {
-        0
-    }
-}
-
-// Where the linkage begins, or 0 if there is none.
-fn linkage_offset(blob: Bytes) -> u32
-    requires { IsTrue (is_directory_of (bytes_of blob)) }
-    ensures { result ≡ linkage_offset_of (bytes_of blob.entry) }
-{
-    if word_at(blob, VERSION) >= CS_SUPPORTSLINKAGE {
-        word_at(blob, LINKAGE_OFFSET)
-    } else {
-        0
-    }
-}
-
-// How many bytes the linkage has.
-fn linkage_size(blob: Bytes) -> u32
-    requires { IsTrue (is_directory_of (bytes_of blob)) }
-    ensures { result ≡ linkage_size_of (bytes_of blob.entry) }
-{
-    if word_at(blob, VERSION) >= CS_SUPPORTSLINKAGE {
-        word_at(blob, LINKAGE_SIZE)
+    if word_at(blob, VERSION) >= version {
+        word_at(blob, offset)
     } else {
         0
     }

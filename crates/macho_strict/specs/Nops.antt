@@ -5,12 +5,12 @@ use Rattle.macho_fields.specs.Field.{field}
 use Rattle.macho_fields.specs.declared.bytes.Order.TheVariants.{Little}
 use Rattle.macho_fields.specs.declared.header.machine.TheConstants as machine
 
--- on arm64 the instruction 0xd503201f, 4 bytes at a multiple of 4
+-- The 4 bytes with the one at the place, at a multiple of 4, are the NOP of arm64: the instruction 0xd503201f.
 abbrev pub is_nop_word : List ℕ → ℕ → Bool
 is_nop_word image place = option_map_or (λ word. word == 0xd503201f) (field Little 4 image (place - place % 4)) false
 
--- the place has a byte of such an instruction of a processor: on x86_64 it is the byte 0x90, and of other processors
--- than these two none is known
+-- The byte at the place belongs to a NOP of the processor: on x86_64 to the byte 0x90, on arm64 to the word above. No NOP
+-- of any other processor is known.
 abbrev pub is_nop : ℕ → List ℕ → ℕ → Bool
 is_nop cpu image place =
     if cpu == machine.CPU_TYPE_X86_64 then slice_index image place == 0x90

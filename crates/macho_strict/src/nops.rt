@@ -7,13 +7,13 @@ ghost use Rattle.macho_strict.specs.Nops.{is_nop as is_nop_of, is_nop_word as is
 use macho_fields::header::machine::{CPU_TYPE_ARM64, CPU_TYPE_X86_64};
 use macho_fields::{Bytes, Order};
 
-// That of x86_64, of one byte.
+// The NOP of x86_64, of one byte.
 const NOP_X86_64: u8 = 0x90;
 
-// That of arm64.
+// The NOP of arm64, of 4 bytes.
 const NOP_ARM64: u32 = 0xd503_201f;
 
-// Whether the byte at `place` is one of such an instruction of the processor.
+// Whether the byte at `place` belongs to a NOP of the processor.
 pub(crate) fn is_nop(cpu: u32, image: Bytes, place: u64) -> bool
     requires { place < length (bytes_of image) }
     ensures { result ≡ is_nop_of cpu (bytes_of image.entry) place }

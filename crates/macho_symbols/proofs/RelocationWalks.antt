@@ -1,7 +1,7 @@
 -- The relocations of an image, one table after the other.
-use Rattle.std.proofs.Common.{◌≡◌, ◌∙◌, ◌↔◌, ℕ, ◌+◌, ◌*◌, ◌≤◌, ◌<◌, ◌⊎◌, List, [], ◌∷◌, ◌++◌, length, Any, Contains, Option, None, Some, refl, sym, ap, subst, arith, lit<, inl, inr}
+use Rattle.std.proofs.Common.{◌≡◌, ◌∙◌, ◌↔◌, ℕ, ◌+◌, ◌*◌, ◌≤◌, ◌<◌, ◌⊎◌, List, [], ◌∷◌, ◌++◌, length, Contains, Option, None, Some, refl, sym, ap, subst, arith, lit<, inl, inr}
 use Rattle.std.proofs.lemmas.Bool.{cases_lt}
-use Rattle.std.proofs.lemmas.List.Elements.{Contains-append_cases, Contains-append_left, Contains-append_right}
+use Rattle.std.proofs.lemmas.List.Elements.{Contains-append_right}
 use Rattle.macho_fields.specs.FirstPlace.{IsLeastPlace}
 use Rattle.macho_fields.specs.Image.{commands_of, with_cmd}
 use Rattle.macho_fields.specs.Layers.{NothingBreaks}
@@ -13,18 +13,18 @@ use Rattle.macho_fields.specs.declared.header.loader.TheConstants as loader
 use Rattle.macho_fields.specs.declared.load_command.Structure.TheVariants as structure
 use Rattle.macho_fields.specs.declared.load_command.TableFields.{TableFields}
 use Rattle.macho_fields.specs.declared.rule.Rule.TheVariants as rule
-use Rattle.macho_fields.proofs.Lists.{any_nil, any_of, contains_first, contains_mapped, only_one}
+use Rattle.macho_fields.proofs.Lists.{any_of, contains_first}
 use Rattle.macho_image.specs.Command.{first_with_cmd}
 use Rattle.macho_image.specs.Segment.{SectionView, section_at, sections_of}
 use Rattle.macho_rules.proofs.Judged.{opened_commands}
 use Rattle.macho_rules.proofs.OneCommand.{first_is, is_with_cmd, none_with_cmd}
 use Rattle.macho_rules.proofs.Searches.{mapped_has, one_of}
 use Rattle.macho_rules.proofs.SectionItems.{AreSections, section_rule_breaks}
-use Rattle.macho_rules.proofs.Surveys.{walked, walked_on, walked_all}
+use Rattle.macho_rules.proofs.Surveys.{walked}
 use Rattle.macho_rules.proofs.TableItems.{table_inside}
 use Rattle.macho_rules.proofs.Verdicts.{unbroken_opened}
 use Rattle.macho_symbols.specs.Reloc.{relocation_at}
-use Rattle.macho_symbols.specs.Relocations.{AtRelocation, InSections, InDysymtab, IsBadOf}
+use Rattle.macho_symbols.specs.Relocations.{AtRelocation, InDysymtab, IsBadOf}
 use Rattle.macho_symbols.specs.declared.reloc.Relocation.{Relocation}
 use Rattle.macho_symbols.specs.declared.relocations.Owner.{Owner}
 use Rattle.macho_tables.specs.Places.{lesser}
@@ -50,67 +50,11 @@ found_as bytes image same start first count items from of owner found least =
     subst (λ these. IsLeastPlace (AtRelocation these first items (IsBadOf these owner)) found) same
     (subst (λ n. IsLeastPlace (AtRelocation bytes first n (IsBadOf bytes owner)) found) of (subst (λ p. IsLeastPlace (AtRelocation bytes p count (IsBadOf bytes owner)) found) from least))
 
--- Those of the sections
+-- Of the sections
 
-any_more : {X : Type 0} (P : X → Type 0) (xs : List X) (x : X) → (Any P xs ⊎ P x) ↔ Any P (xs ++ x ∷ [])
-any_more {X = X} P xs x = (to, from)
-  where
-    to : Any P xs ⊎ P x → Any P (xs ++ x ∷ [])
-    to (inl any) = let (y, has, here) = one_of P xs any in any_of P (xs ++ x ∷ []) y (Contains-append_left xs (x ∷ []) y has) here
-    to (inr here) = any_of P (xs ++ x ∷ []) x (Contains-append_right xs (x ∷ []) x (contains_first x [])) here
-
-    last_or : (y : X) → P y → Contains xs y ⊎ Contains (x ∷ []) y → Any P xs ⊎ P x
-    last_or y here (inl before) = inl (any_of P xs y before here)
-    last_or y here (inr last) = inr (subst P (sym (only_one x y last)) here)
-
-    from : Any P (xs ++ x ∷ []) → Any P xs ⊎ P x
-    from any = let (y, has, here) = one_of P (xs ++ x ∷ []) any in last_or y here (Contains-append_cases xs (x ∷ []) y has)
-
-module _ (image : List ℕ) (P : Relocation → Type 0) where
-  -- one of the relocations of a section has P
-  abbrev pub OfSection : ℕ → SectionView → Type 0
-  OfSection place s = AtRelocation image (reloff s.image s.place) (nreloc s.image s.place) P place
-
-  -- the least place in the sections that were passed
-  pub record AreSearched (all left : List SectionView) (least : Option ℕ) : Type 0 where
-    pub seen : List SectionView
-    pub reached : all ≡ seen ++ left
-    pub found : IsLeastPlace (λ place. Any (OfSection place) seen) least
-
-  pub searched_none : (all : List SectionView) → AreSearched all all None
-  searched_none all = record { seen = []; reached = refl; found = λ place any. any_nil (OfSection place) any }
-
-  pub searched_more : (all left rest : List SectionView) (s : SectionView) → left ≡ s ∷ rest → (least one : Option ℕ) → AreSearched all left least
-      → IsLeastPlace (λ place. OfSection place s) one → AreSearched all rest (lesser least one)
-  searched_more all left rest s is least one searched here = record {
-    seen = searched.seen ++ s ∷ [];
-    reached = walked_on all searched.seen left s rest searched.reached is;
-    found = least_same (λ place. Any (OfSection place) searched.seen ⊎ OfSection place s) (λ place. Any (OfSection place) (searched.seen ++ s ∷ [])) (lesser least one)
-        (λ place. any_more (OfSection place) searched.seen s)
-        (least_joined (λ place. Any (OfSection place) searched.seen) (λ place. OfSection place s) least one searched.found here);
-  }
-
-  abbrev Of : ℕ → ℕ × ℕ → Type 0
-  Of place section = AtRelocation image (reloff image section.1) (nreloc image section.1) P place
-
-  module _ (all : List SectionView) (are : AreSections image all) where
-    of_sections : (place : ℕ) → Any (OfSection place) all ↔ InSections image P place
-    of_sections place = (
-      λ any.
-          let (s, has, here) = one_of (OfSection place) all any in
-          let (section, among, at) = mapped_has (section_at image) (sections_of image (commands_of image)) s (subst (λ these. Contains these s) are has) in
-          any_of (Of place) (sections_of image (commands_of image)) section among (subst (OfSection place) (sym at) here),
-      λ any.
-          let (section, among, here) = one_of (Of place) (sections_of image (commands_of image)) any in
-          any_of (OfSection place) all (section_at image section)
-          (subst (λ these. Contains these (section_at image section)) (sym are) (contains_mapped (section_at image) (sections_of image (commands_of image)) section among)) here,
-    )
-
-    pub searched_all : (left : List SectionView) → left ≡ [] → (least : Option ℕ) → AreSearched all left least → IsLeastPlace (InSections image P) least
-    searched_all left ended least searched =
-        let all_seen = walked_all all searched.seen left searched.reached ended in
-        least_same (λ place. Any (OfSection place) all) (InSections image P) least of_sections
-        (subst (λ these. IsLeastPlace (λ place. Any (OfSection place) these) least) (sym all_seen) searched.found)
+-- a relocation of a section has P
+abbrev pub AtSection : List ℕ → (Relocation → Type 0) → List ℕ → ℕ → ℕ → ℕ → Type 0
+AtSection image P given segment section place = AtRelocation image (reloff given section) (nreloc given section) P place
 
 -- a table of a section lies inside the image
 module _ (image : List ℕ) (keeps : NothingBreaks (BreaksImage image None)) (all : List SectionView) (are : AreSections image all) where
@@ -131,7 +75,7 @@ module _ (image : List ℕ) (keeps : NothingBreaks (BreaksImage image None)) (al
         | inr fits ↦ (let size = ap length same in omega (arith, fits, size))
       ]
 
--- Those of LC_DYSYMTAB
+-- Of LC_DYSYMTAB
 
 external_listed : Contains (table_fields structure.DysymtabCommand) external_relocations
 external_listed = (4, lit< tt, refl)

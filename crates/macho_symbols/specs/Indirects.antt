@@ -6,17 +6,16 @@ use Rattle.std.specs.Option.{option_map_or}
 use Rattle.macho_fields.specs.Image.{commands_of}
 use Rattle.macho_fields.specs.Segment.{section_size, section_flags}
 use Rattle.macho_fields.specs.Symbol.{nindirectsyms}
-use Rattle.macho_fields.specs.declared.header.loader.TheConstants.{LC_DYSYMTAB}
+use Rattle.macho_fields.specs.declared.header.loader.TheConstants.{LC_DYSYMTAB, S_NON_LAZY_SYMBOL_POINTERS, S_LAZY_SYMBOL_POINTERS, S_SYMBOL_STUBS, S_LAZY_DYLIB_SYMBOL_POINTERS, S_THREAD_LOCAL_VARIABLE_POINTERS}
 use Rattle.macho_image.specs.Command.{first_with_cmd}
 use Rattle.macho_image.specs.Segment.{reserved1, reserved2, sections_of}
-use Rattle.macho_symbols.specs.SectionTypes.{S_NON_LAZY_SYMBOL_POINTERS, S_LAZY_SYMBOL_POINTERS, S_SYMBOL_STUBS, S_LAZY_DYLIB_SYMBOL_POINTERS, S_THREAD_LOCAL_VARIABLE_POINTERS}
 use Rattle.macho_tables.specs.declared.limits.TheConstants.{POINTER_SIZE}
 
 -- section_64.flags: the low byte is the type (SECTION_TYPE)
 abbrev pub section_type : List ℕ → ℕ → ℕ
 section_type image place = section_flags image place % 256
 
--- those of the sections of stubs, and of pointers to symbols
+-- the types of sections of stubs, and of pointers to symbols
 abbrev pub is_of_indirects : ℕ → Bool
 is_of_indirects kind =
     list_any (λ wanted. kind == wanted)
@@ -41,7 +40,7 @@ abbrev pub IsUneven : List ℕ → ℕ → Type 0
 IsUneven image place =
     (stride image place ≡ 0) ⊎ (section_size image place % stride image place ≢ 0)
 
--- each has an entry, from reserved1 on, and the last one is past the entries of the image
+-- Each takes an entry, from reserved1 on, and the last one would be past the entries of the image.
 abbrev pub PassesIndirects : List ℕ → ℕ → Type 0
 PassesIndirects image place =
     indirect_count image < reserved1 image place + section_size image place / stride image place

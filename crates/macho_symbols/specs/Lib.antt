@@ -6,7 +6,6 @@ pub mod Obsolete
 pub mod Reloc
 pub mod RelocationTables
 pub mod Relocations
-pub mod SectionTypes
 pub mod Sections
 pub mod SymbolLimits
 pub mod Symbols

@@ -3,24 +3,14 @@
 
 ghost use Rattle.std.specs.Prelude.{◌≡◌, ◌↔◌, ◌<◌, IsTrue};
 ghost use Rattle.macho_fields.specs.FirstPlace.{IsLeastPlace};
-ghost use Rattle.macho_symbols.specs.Indirects.{section_type as section_type_of, is_of_indirects as is_of_indirects_of, stride as stride_of, indirect_count as indirect_count_of, IsUneven, PassesIndirects, AreBad, IsBadIndirects, BreaksIndirectRange};
+ghost use Rattle.macho_symbols.specs.Indirects.{section_type, is_of_indirects as is_of_indirects_of, stride as stride_of, indirect_count as indirect_count_of, IsUneven, PassesIndirects, AreBad, IsBadIndirects, BreaksIndirectRange};
 
-use macho_fields::header::loader::SECTION_TYPE;
+use macho_fields::header::loader::{
+    S_LAZY_DYLIB_SYMBOL_POINTERS, S_LAZY_SYMBOL_POINTERS, S_NON_LAZY_SYMBOL_POINTERS,
+    S_SYMBOL_STUBS, S_THREAD_LOCAL_VARIABLE_POINTERS,
+};
 use macho_image::{Image, Section};
 use macho_tables::limits::POINTER_SIZE;
-
-// The types of the sections that have indirect entries.
-
-/// The type of a section of pointers that are bound when an image is loaded.
-pub const S_NON_LAZY_SYMBOL_POINTERS: u64 = 0x6;
-/// The type of a section of pointers that are bound when they are first used.
-pub const S_LAZY_SYMBOL_POINTERS: u64 = 0x7;
-/// The type of a section of stubs. `reserved2` is the size of one.
-pub const S_SYMBOL_STUBS: u64 = 0x8;
-/// The type of a section of pointers into libraries that are loaded late.
-pub const S_LAZY_DYLIB_SYMBOL_POINTERS: u64 = 0x10;
-/// The type of a section of pointers to variables that each thread has for itself.
-pub const S_THREAD_LOCAL_VARIABLE_POINTERS: u64 = 0x14;
 
 /// The place of the first section whose stubs or pointers have no size, do not fill it, or pass the last indirect
 /// entry of the image.
@@ -64,10 +54,10 @@ fn are_bad(section: &Section, entries: u64) -> bool
 
 /// Whether the section is one of stubs, or of pointers to symbols.
 pub fn has_indirects(section: &Section) -> bool
-    ensures { result ≡ is_of_indirects_of (section_type_of section.now.image section.now.place) }
+    ensures { result ≡ is_of_indirects_of (section_type section.now.image section.now.place) }
 {
     matches!(
-        section_type(section),
+        section.section_type(),
         S_NON_LAZY_SYMBOL_POINTERS
             | S_LAZY_SYMBOL_POINTERS
             | S_SYMBOL_STUBS
@@ -76,18 +66,11 @@ pub fn has_indirects(section: &Section) -> bool
     )
 }
 
-// The type of the section: the low byte of its flags.
-fn section_type(section: &Section) -> u64
-    ensures { result ≡ section_type_of section.now.image section.now.place }
-{
-    section.flags() & u64::from(SECTION_TYPE)
-}
-
 /// The size of a stub of the section, or of a pointer.
 pub fn stride(section: &Section) -> u64
     ensures { result ≡ stride_of section.now.image section.now.place }
 {
-    if section_type(section) == S_SYMBOL_STUBS {
+    if section.section_type() == S_SYMBOL_STUBS {
         section.reserved2()
     } else {
         POINTER_SIZE

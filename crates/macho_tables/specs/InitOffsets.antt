@@ -4,21 +4,21 @@ use Rattle.std.specs.Prelude.{◌≡◌, ℕ, ◌+◌, ◌*◌, ◌%◌, ◌<◌
 use Rattle.std.specs.Int.{div_ceil}
 use Rattle.macho_fields.specs.Image.{word, commands_of}
 use Rattle.macho_fields.specs.Segment.{base_of, vmsize, section_size, section_offset, section_flags, IsExecutable}
+use Rattle.macho_fields.specs.declared.header.loader.TheConstants as loader
 use Rattle.macho_image.specs.Segment.{sections_of}
 use Rattle.macho_tables.specs.Items.{AtItem}
-use Rattle.macho_tables.specs.declared.init_offsets.TheConstants as init
 
 -- the section has such offsets, and its segment is mapped
 abbrev pub HasOffsets : List ℕ → ℕ → ℕ → Type 0
 HasOffsets image segment section =
-    (section_flags image section % 256 ≡ init.S_INIT_FUNC_OFFSETS) × (0 < vmsize image segment)
+    (section_flags image section % 256 ≡ loader.S_INIT_FUNC_OFFSETS) × (0 < vmsize image segment)
 
 -- how many offsets begin in it, and where the offset k is in the image
 abbrev pub offset_count : List ℕ → ℕ → ℕ
-offset_count image section = div_ceil (section_size image section) init.INIT_OFFSET_SIZE
+offset_count image section = div_ceil (section_size image section) loader.INIT_OFFSET_SIZE
 
 abbrev pub offset_place : List ℕ → ℕ → ℕ → ℕ
-offset_place image section k = section_offset image section + k * init.INIT_OFFSET_SIZE
+offset_place image section k = section_offset image section + k * loader.INIT_OFFSET_SIZE
 
 -- the offset at the place leads to an executable byte of the file, from the base on
 abbrev pub IsCalled : List ℕ → ℕ → Type 0
@@ -29,10 +29,10 @@ IsCalled image place =
 -- the offset k is cut, or leads to no such byte
 abbrev pub IsBadOffset : List ℕ → ℕ → ℕ → Type 0
 IsBadOffset image section k =
-    (section_size image section < k * init.INIT_OFFSET_SIZE + init.INIT_OFFSET_SIZE)
+    (section_size image section < k * loader.INIT_OFFSET_SIZE + loader.INIT_OFFSET_SIZE)
     ⊎ ¬ IsCalled image (offset_place image section k)
 
--- one of those of a section is at the place
+-- a bad offset of a section is at the place
 abbrev pub BadOffset : List ℕ → ℕ → ℕ → Type 0
 BadOffset image section place =
     AtItem (offset_place image section) (offset_count image section) (IsBadOffset image section) place

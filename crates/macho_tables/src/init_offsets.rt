@@ -14,14 +14,9 @@ ghost use Rattle.macho_tables.specs.RunBytes.{AreRunBytes};
 use crate::fields::word_at;
 use crate::place::lesser;
 use crate::run_bytes::RunBytes;
+use macho_fields::header::loader::{INIT_OFFSET_SIZE, S_INIT_FUNC_OFFSETS};
 use macho_image::{Image, Section};
 use std::alloc::{AllocError, Global};
-
-/// The type of a section with such offsets, of 4 bytes each.
-pub const S_INIT_FUNC_OFFSETS: u64 = 0x16;
-
-/// The size in bytes of an offset.
-pub const INIT_OFFSET_SIZE: u64 = 4;
 
 /// The place of the first offset that is cut, or that is not from the base to an executable byte of the file. The
 /// image breaks no rule of the layout and no strict rule. It takes memory only if a section has such offsets.
@@ -54,7 +49,7 @@ fn has_init_offsets(image: &Image) -> bool
 pub fn has_offsets(section: &Section) -> bool
     ensures { IsTrue result ↔ HasOffsets section.now.image section.now.segment section.now.place }
 {
-    section.flags() % 256 == S_INIT_FUNC_OFFSETS && section.segment().vmsize() > 0
+    section.section_type() == S_INIT_FUNC_OFFSETS && section.segment().vmsize() > 0
 }
 
 // The place of the first bad offset of all sections.

@@ -67,6 +67,27 @@ pub const S_GB_ZEROFILL: u32 = 0xc;
 /// The type of a section of zeros of which each thread has its own.
 pub const S_THREAD_LOCAL_ZEROFILL: u32 = 0x12;
 
+/// The type of a section of pointers that are bound when an image is loaded.
+pub const S_NON_LAZY_SYMBOL_POINTERS: u32 = 0x6;
+
+/// The type of a section of pointers that are bound when they are first used.
+pub const S_LAZY_SYMBOL_POINTERS: u32 = 0x7;
+
+/// The type of a section of stubs, of `reserved2` bytes each.
+pub const S_SYMBOL_STUBS: u32 = 0x8;
+
+/// The type of a section of pointers into libraries that are loaded late.
+pub const S_LAZY_DYLIB_SYMBOL_POINTERS: u32 = 0x10;
+
+/// The type of a section of pointers to variables that each thread has for itself.
+pub const S_THREAD_LOCAL_VARIABLE_POINTERS: u32 = 0x14;
+
+/// The type of a section of offsets, from the base, of functions that a loader calls first.
+pub const S_INIT_FUNC_OFFSETS: u32 = 0x16;
+
+/// The size in bytes of such an offset.
+pub const INIT_OFFSET_SIZE: u64 = 4;
+
 /// The mark of an indirect entry whose symbol is local to the image.
 pub const INDIRECT_SYMBOL_LOCAL: u32 = 0x8000_0000;
 
