@@ -129,7 +129,8 @@ rules! {
     TableRepeated = 41,
     /// Linked: a command has variants of functions, by which loaders write, and which no rule reads.
     FunctionVariants = 42,
-    /// Linked: a table of linked data is not where a loader finds it, or can change in memory.
+    /// Linked: linked data, symbols, strings or indirect symbols are not where a loader finds them, or can change in
+    /// memory.
     TableHome = 43,
     /// Linked: the header cannot be read in memory, or can be written, or is not where loaders take the segment named
     /// `__TEXT` to be.

@@ -192,7 +192,7 @@ pub enum Rule {
     TableRepeated = 41,
     /// A command has variants of functions, by which loaders write, and which no rule reads.
     FunctionVariants = 42,
-    /// A table of linked data is not where a loader finds it, or can change in memory.
+    /// Linked data, symbols, strings or indirect symbols are not where a loader finds them, or can change in memory.
     TableHome = 43,
     /// The header cannot be read in memory, or can be written, or is not where loaders take the segment named `__TEXT`
     /// to be.
