@@ -498,8 +498,9 @@ struct kesvuot_section {         /* section_64 */
     uint32_t reloff;             /* any number if nreloc is 0 */
     uint32_t nreloc;             /* all 8 * nreloc bytes from reloff on lie in the slice */
     uint32_t flags;              /* any number. The low byte is the type, on which zero_fill depends */
-    uint32_t reserved1;          /* any number, also where it is the index of an indirect symbol */
-    uint32_t reserved2;          /* any number */
+    uint32_t reserved1;          /* any number. By linked, all stubs or symbol pointers of the section have indirect
+                                    symbols, and this is the index of the first one */
+    uint32_t reserved2;          /* any number. By linked, not 0 if the section has stubs, whose size in bytes it is */
     uint32_t zero_fill;          /* 1: a loader fills it with zeros. 0: it has bytes in the file */
 };
 

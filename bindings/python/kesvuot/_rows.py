@@ -70,7 +70,8 @@ class Section(NamedTuple):
     `align`: the exponent of a power of 2, any number
     `reloff`: any number if `nreloc` is 0
     `flags`: its type in the low byte, and its attributes
-    `reserved1`, `reserved2`: any numbers, such as the index of an indirect entry
+    `reserved1`, `reserved2`: any numbers. By the linked profile, `reserved1` of a section with stubs or symbol pointers
+    is the index of its first indirect entry, and `reserved2` the size of a stub
     `zero_fill`: whether a loader fills it with zeros"""
 
     name: memoryview
