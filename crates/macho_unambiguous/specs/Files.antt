@@ -1,0 +1,103 @@
+-- Where an entry of a universal file breaks a rule, so that two readers run another slice, or see another kind of file.
+-- (mach-o/fat.h: fat_header, fat_arch, fat_arch_64; mach-o/loader.h: mach_header, mach_header_64; mach/machine.h)
+use Rattle.std.specs.Prelude.{◌≡◌, ◌≢◌, ℕ, ◌+◌, ◌-◌, ◌%◌, ◌≤◌, ◌<◌, ◌==◌, ◌||◌, ◌⊎◌, List, Some, Bool, true, bit_and, if◌then◌else◌}
+use Rattle.macho_fields.specs.Field.{number, field}
+use Rattle.macho_fields.specs.Rules.{AtEntry}
+use Rattle.macho_fields.specs.Universal.{IsUniversal, IsImage, entry_count, entry_place, entry_slice, slice_bytes}
+use Rattle.macho_fields.specs.declared.bytes.Order.{Order}
+use Rattle.macho_fields.specs.declared.bytes.Order.TheVariants.{Big, Little}
+use Rattle.macho_fields.specs.declared.header.fat.TheConstants as fat
+use Rattle.macho_fields.specs.declared.header.loader.TheConstants as loader
+use Rattle.macho_fields.specs.declared.header.machine.TheConstants as machine
+use Rattle.macho_unambiguous.specs.Pages.{page_size, page_end}
+use Rattle.macho_unambiguous.specs.declared.files.TheConstants as files
+
+-- the slice of entry k: its bytes
+abbrev pub entry_bytes : List ℕ → ℕ → List ℕ
+entry_bytes file k = slice_bytes file (entry_slice file k)
+
+-- fat_arch, fat_arch_64: cputype at 0, and the whole cpusubtype at 4
+abbrev pub entry_cputype : List ℕ → ℕ → ℕ
+entry_cputype file k = number Big 4 file (entry_place file k)
+
+abbrev pub entry_cpusubtype : List ℕ → ℕ → ℕ
+entry_cpusubtype file k = number Big 4 file (entry_place file k + 4)
+
+-- The file has so many entries that a reader takes the number of entries for the version of a Java class, which begins
+-- with the same magic number as a table of fat_arch.
+abbrev pub LooksLikeClass : List ℕ → Type 0
+LooksLikeClass file =
+    IsUniversal file × (number Big 4 file 0 ≡ fat.FAT_MAGIC) × (files.LEAST_CLASS_COUNT ≤ entry_count file)
+
+-- the rule fat-count, at nfat_arch
+abbrev pub BreaksFatCount : List ℕ → ℕ → Type 0
+BreaksFatCount file place = (place ≡ 4) × LooksLikeClass file
+
+-- mach_header.magic, mach_header_64.magic: the order of the fields of the header, and whether it has 64 bits
+abbrev pub has_magic : Order → ℕ → List ℕ → Bool
+has_magic order magic bytes = number order 4 bytes 0 == magic
+
+abbrev pub is_wide : List ℕ → Bool
+is_wide bytes = has_magic Little loader.MH_MAGIC_64 bytes || has_magic Big loader.MH_MAGIC_64 bytes
+
+abbrev pub header_order : List ℕ → Order
+header_order bytes =
+    if has_magic Big loader.MH_MAGIC bytes || has_magic Big loader.MH_MAGIC_64 bytes then Big else Little
+
+-- the header has another cputype than the entry, or none: cputype at 4
+abbrev pub HasOtherType : List ℕ → ℕ → Type 0
+HasOtherType file k =
+    let bytes = entry_bytes file k in
+    field (header_order bytes) 4 bytes 4 ≢ Some (entry_cputype file k)
+
+-- the cputype is one of 64 bits and the magic number is not, or the reverse
+abbrev pub HasOtherWidth : List ℕ → ℕ → Type 0
+HasOtherWidth file k =
+    let is_64 = bit_and (entry_cputype file k) files.CPU_ARCH_ABI64 == files.CPU_ARCH_ABI64 in
+    is_wide (entry_bytes file k) ≢ is_64
+
+-- the slice is read, and its header has another whole cpusubtype than the entry, or none: cpusubtype at 8
+abbrev pub HasOtherSubtype : List ℕ → ℕ → Type 0
+HasOtherSubtype file k =
+    IsImage (entry_bytes file k)
+    × (field Little 4 (entry_bytes file k) 8 ≢ Some (entry_cpusubtype file k))
+
+-- the processors whose slices are judged
+abbrev pub is_judged : ℕ → Bool
+is_judged cputype = (cputype == machine.CPU_TYPE_X86_64) || (cputype == machine.CPU_TYPE_ARM64)
+
+-- the slice is for such a processor, and is not read
+abbrev pub IsUnjudged : List ℕ → ℕ → Type 0
+IsUnjudged file k =
+    (is_judged (entry_cputype file k) ≡ true) × ¬ IsImage (entry_bytes file k)
+
+abbrev pub HasOtherHeader : List ℕ → ℕ → Type 0
+HasOtherHeader file k =
+    HasOtherType file k ⊎ (HasOtherWidth file k ⊎ (HasOtherSubtype file k ⊎ IsUnjudged file k))
+
+-- the rule fat-header, at the place of an entry
+abbrev pub BreaksFatHeader : List ℕ → ℕ → Type 0
+BreaksFatHeader file place = IsUniversal file × AtEntry file (HasOtherHeader file) place
+
+-- the first place past the last page that has a byte of the slice of entry k
+abbrev pub pages_end : List ℕ → ℕ → ℕ
+pages_end file k =
+    let slice = entry_slice file k in
+    page_end (page_size (entry_cputype file k)) (slice.start + slice.size - 1)
+
+-- no page begins where the slice does
+abbrev pub BeginsOffPage : List ℕ → ℕ → Type 0
+BeginsOffPage file k = (entry_slice file k).start % page_size (entry_cputype file k) ≢ 0
+
+-- another slice begins in the pages of the slice
+abbrev pub SharesPage : List ℕ → ℕ → Type 0
+SharesPage file k =
+    (j : ℕ) × (j < entry_count file) × ((entry_slice file k).start < (entry_slice file j).start)
+    × ((entry_slice file j).start < pages_end file k)
+
+abbrev pub IsOffPages : List ℕ → ℕ → Type 0
+IsOffPages file k = IsImage (entry_bytes file k) × (BeginsOffPage file k ⊎ SharesPage file k)
+
+-- the rule fat-page, at the place of an entry
+abbrev pub BreaksFatPage : List ℕ → ℕ → Type 0
+BreaksFatPage file place = IsUniversal file × AtEntry file (IsOffPages file) place

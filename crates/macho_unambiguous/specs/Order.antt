@@ -1,0 +1,28 @@
+-- Where a command shifts the numbers by which fixups name segments and libraries. (mach-o/loader.h:
+-- segment_command_64, dylib_command)
+use Rattle.std.specs.Prelude.{◌≡◌, ℕ, ◌<◌, ◌⊎◌, List, Any, Contains, true}
+use Rattle.macho_fields.specs.Image.{command_cmd, commands_of}
+use Rattle.macho_fields.specs.Segment.{vmsize, all_segments}
+use Rattle.macho_fields.specs.declared.header.loader.TheConstants as loader
+use Rattle.macho_tables.specs.Limits.{loads_library}
+use Rattle.macho_tables.specs.Segments.{is_writable}
+
+-- the command is a segment that is not mapped, and a later one can be written
+abbrev pub ShiftsSegment : List ℕ → ℕ → Type 0
+ShiftsSegment image command =
+    (command_cmd image command ≡ loader.LC_SEGMENT_64) × (vmsize image command ≡ 0)
+    × Any (λ later. (command < later) × (is_writable image later ≡ true)) (all_segments image)
+
+-- the command is a library that is loaded late, and a later one is loaded at once
+abbrev pub ShiftsLibrary : List ℕ → ℕ → Type 0
+ShiftsLibrary image command =
+    (command_cmd image command ≡ loader.LC_LAZY_LOAD_DYLIB)
+    × Any (λ later. (command < later) × (loads_library (command_cmd image later) ≡ true)
+    × ¬ (command_cmd image later ≡ loader.LC_LAZY_LOAD_DYLIB)) (commands_of image)
+
+abbrev pub ShiftsNumber : List ℕ → ℕ → Type 0
+ShiftsNumber image command = ShiftsSegment image command ⊎ ShiftsLibrary image command
+
+-- the rule number-shift, at the place of a command
+abbrev pub BreaksNumberShift : List ℕ → ℕ → Type 0
+BreaksNumberShift image place = Contains (commands_of image) place × ShiftsNumber image place

@@ -1,0 +1,10 @@
+#![tactic(auto)]
+//! The unambiguous profile: rules under which all readers of a file see one program.
+//!
+//! A `place` is an offset in bytes from the start of the image, or of the file in the rules of a universal file.
+
+pub mod commands;
+pub mod files;
+pub mod pages;
+pub mod sections;
+pub mod segments;
