@@ -4,6 +4,7 @@
 //! A `place` is an offset in bytes from the start of the image, or of the file in the rules of a universal file.
 
 pub mod commands;
+pub mod entry;
 pub mod files;
 pub mod pages;
 pub mod sections;
