@@ -1,2 +1,3 @@
 mod Found
 mod Optional
+mod FatEntries

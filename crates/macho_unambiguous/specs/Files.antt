@@ -1,12 +1,14 @@
 -- Where an entry of a universal file breaks a rule, so that two readers run another slice, or see another kind of file.
 -- (mach-o/fat.h: fat_header, fat_arch, fat_arch_64; mach-o/loader.h: mach_header, mach_header_64; mach/machine.h)
-use Rattle.std.specs.Prelude.{◌≡◌, ◌≢◌, ℕ, ◌+◌, ◌-◌, ◌%◌, ◌≤◌, ◌<◌, ◌==◌, ◌||◌, ◌⊎◌, List, Some, Bool, true, bit_and, if◌then◌else◌}
+use Rattle.std.specs.Prelude.{◌≡◌, ◌≢◌, ℕ, ◌+◌, ◌-◌, ◌%◌, ◌≤◌, ◌<◌, ◌==◌, ◌||◌, ◌⊎◌, nat_lt, List, length, Some, Bool, true, false, bit_and, if◌then◌else◌}
+use Rattle.std.specs.Option.{option_map_or}
 use Rattle.macho_fields.specs.Field.{number, field}
 use Rattle.macho_fields.specs.Rules.{AtEntry}
 use Rattle.macho_fields.specs.Universal.{IsUniversal, IsImage, entry_count, entry_place, entry_slice, slice_bytes}
 use Rattle.macho_fields.specs.declared.bytes.Order.{Order}
 use Rattle.macho_fields.specs.declared.bytes.Order.TheVariants.{Big, Little}
 use Rattle.macho_fields.specs.declared.header.fat.TheConstants as fat
+use Rattle.macho_fields.specs.declared.header.fat.fat_header.TheConstants.{NFAT_ARCH}
 use Rattle.macho_fields.specs.declared.header.loader.TheConstants as loader
 use Rattle.macho_fields.specs.declared.header.machine.TheConstants as machine
 use Rattle.macho_unambiguous.specs.Pages.{page_size, page_end}
@@ -23,44 +25,47 @@ entry_cputype file k = number Big 4 file (entry_place file k)
 abbrev pub entry_cpusubtype : List ℕ → ℕ → ℕ
 entry_cpusubtype file k = number Big 4 file (entry_place file k + 4)
 
--- The file has so many entries that a reader takes the number of entries for the version of a Java class, which begins
--- with the same magic number as a table of fat_arch.
+-- fat_header: magic at 0, nfat_arch at 4. There are so many entries that a reader takes their number for the version of a
+-- Java class, which begins with the same magic number as a table of fat_arch.
 abbrev pub LooksLikeClass : List ℕ → Type 0
 LooksLikeClass file =
-    IsUniversal file × (number Big 4 file 0 ≡ fat.FAT_MAGIC) × (files.LEAST_CLASS_COUNT ≤ entry_count file)
+    (fat.FAT_HEADER_SIZE ≤ length file) × (number Big 4 file 0 ≡ fat.FAT_MAGIC)
+    × (files.LEAST_CLASS_COUNT ≤ entry_count file)
 
 -- the rule fat-count, at nfat_arch
 abbrev pub BreaksFatCount : List ℕ → ℕ → Type 0
-BreaksFatCount file place = (place ≡ 4) × LooksLikeClass file
+BreaksFatCount file place = (place ≡ NFAT_ARCH) × LooksLikeClass file
 
--- mach_header.magic, mach_header_64.magic: the order of the fields of the header, and whether it has 64 bits
+-- mach_header.magic, mach_header_64.magic: bytes begin with a magic number in this order
 abbrev pub has_magic : Order → ℕ → List ℕ → Bool
-has_magic order magic bytes = number order 4 bytes 0 == magic
+has_magic order wanted bytes = option_map_or (λ magic. magic == wanted) (field order 4 bytes 0) false
 
+-- the header has 64 bits
 abbrev pub is_wide : List ℕ → Bool
 is_wide bytes = has_magic Little loader.MH_MAGIC_64 bytes || has_magic Big loader.MH_MAGIC_64 bytes
 
+-- the order of the fields of the header
 abbrev pub header_order : List ℕ → Order
 header_order bytes =
     if has_magic Big loader.MH_MAGIC bytes || has_magic Big loader.MH_MAGIC_64 bytes then Big else Little
 
--- the header has another cputype than the entry, or none: cputype at 4
+-- Of the bytes of a slice, and what its entry says of them
+
+-- mach_header.cputype at 4: the header has another cputype than the entry, or none
 abbrev pub HasOtherType : List ℕ → ℕ → Type 0
-HasOtherType file k =
-    let bytes = entry_bytes file k in
-    field (header_order bytes) 4 bytes 4 ≢ Some (entry_cputype file k)
+HasOtherType bytes cputype = field (header_order bytes) 4 bytes 4 ≢ Some cputype
 
--- the cputype is one of 64 bits and the magic number is not, or the reverse
+-- the cputype is one of a processor of 64 bits (mach/machine.h: CPU_ARCH_ABI64)
+abbrev pub is_of_64_bits : ℕ → Bool
+is_of_64_bits cputype = nat_lt 0 (bit_and cputype files.CPU_ARCH_ABI64)
+
+-- it is, and the header has 32 bits, or the reverse
 abbrev pub HasOtherWidth : List ℕ → ℕ → Type 0
-HasOtherWidth file k =
-    let is_64 = bit_and (entry_cputype file k) files.CPU_ARCH_ABI64 == files.CPU_ARCH_ABI64 in
-    is_wide (entry_bytes file k) ≢ is_64
+HasOtherWidth bytes cputype = is_wide bytes ≢ is_of_64_bits cputype
 
--- the slice is read, and its header has another whole cpusubtype than the entry, or none: cpusubtype at 8
+-- mach_header_64.cpusubtype at 8: the slice is read, and its whole cpusubtype is another one, or it has none
 abbrev pub HasOtherSubtype : List ℕ → ℕ → Type 0
-HasOtherSubtype file k =
-    IsImage (entry_bytes file k)
-    × (field Little 4 (entry_bytes file k) 8 ≢ Some (entry_cpusubtype file k))
+HasOtherSubtype bytes cpusubtype = IsImage bytes × (field Little 4 bytes 8 ≢ Some cpusubtype)
 
 -- the processors whose slices are judged
 abbrev pub is_judged : ℕ → Bool
@@ -68,16 +73,27 @@ is_judged cputype = (cputype == machine.CPU_TYPE_X86_64) || (cputype == machine.
 
 -- the slice is for such a processor, and is not read
 abbrev pub IsUnjudged : List ℕ → ℕ → Type 0
-IsUnjudged file k =
-    (is_judged (entry_cputype file k) ≡ true) × ¬ IsImage (entry_bytes file k)
+IsUnjudged bytes cputype = (is_judged cputype ≡ true) × ¬ IsImage bytes
 
-abbrev pub HasOtherHeader : List ℕ → ℕ → Type 0
-HasOtherHeader file k =
-    HasOtherType file k ⊎ (HasOtherWidth file k ⊎ (HasOtherSubtype file k ⊎ IsUnjudged file k))
+-- the entry says of the processor something that the slice does not
+abbrev pub HasOtherProcessor : List ℕ → ℕ → Type 0
+HasOtherProcessor bytes cputype = HasOtherType bytes cputype ⊎ HasOtherWidth bytes cputype
+
+abbrev pub IsOtherwiseRead : List ℕ → ℕ → ℕ → Type 0
+IsOtherwiseRead bytes cputype cpusubtype = HasOtherSubtype bytes cpusubtype ⊎ IsUnjudged bytes cputype
+
+unfoldable pub HasOtherHeader : List ℕ → ℕ → ℕ → Type 0
+HasOtherHeader bytes cputype cpusubtype =
+    HasOtherProcessor bytes cputype ⊎ IsOtherwiseRead bytes cputype cpusubtype
+
+-- entry k has such a slice
+abbrev pub IsOtherEntry : List ℕ → ℕ → Type 0
+IsOtherEntry file k =
+    HasOtherHeader (entry_bytes file k) (entry_cputype file k) (entry_cpusubtype file k)
 
 -- the rule fat-header, at the place of an entry
 abbrev pub BreaksFatHeader : List ℕ → ℕ → Type 0
-BreaksFatHeader file place = IsUniversal file × AtEntry file (HasOtherHeader file) place
+BreaksFatHeader file place = IsUniversal file × AtEntry file (IsOtherEntry file) place
 
 -- the first place past the last page that has a byte of the slice of entry k
 abbrev pub pages_end : List ℕ → ℕ → ℕ
