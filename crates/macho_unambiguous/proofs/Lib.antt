@@ -1,3 +1,6 @@
 mod Found
 mod Optional
 mod FatEntries
+mod Cases
+mod FileModels
+mod ImageModels

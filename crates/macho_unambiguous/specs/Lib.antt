@@ -5,3 +5,4 @@ pub mod Entry
 pub mod Files
 pub mod Sections
 pub mod Order
+pub mod Models

@@ -6,6 +6,7 @@
 pub mod commands;
 pub mod entry;
 pub mod files;
+pub mod law;
 pub mod pages;
 pub mod sections;
 pub mod segments;

@@ -1,0 +1,193 @@
+-- The answers of readers, question by question, and that all of them agree. A model of a reader is a relation between a
+-- question and an answer. It may have none: a reader that refuses shows no other program.
+use Rattle.std.specs.Prelude.{◌≡◌, ℕ, ◌+◌, ◌%◌, ◌≤◌, ◌<◌, ◌⊎◌, ◌↔◌, List, length, Contains, Some, bit_and, true}
+use Rattle.macho_fields.specs.Field.{number, field}
+use Rattle.macho_fields.specs.Image.{command_cmd, commands_of}
+use Rattle.macho_fields.specs.Segment.{all_segments, base_of, vmaddr, vmsize, initprot, shows_start}
+use Rattle.macho_fields.specs.Universal.{IsUniversal, IsImage, entry_count}
+use Rattle.macho_fields.specs.declared.bytes.Order.TheVariants.{Big, Little}
+use Rattle.macho_fields.specs.declared.file_type.Kind.TheVariants as kind
+use Rattle.macho_fields.specs.declared.header.fat.TheConstants as fat
+use Rattle.macho_fields.specs.declared.header.loader.TheConstants as loader
+use Rattle.macho_image.specs.Header.{IsKind}
+use Rattle.macho_image.specs.Segment.{sections_of, maxprot, section_name, segment_name}
+use Rattle.macho_tables.specs.Segments.{IsText}
+use Rattle.macho_unambiguous.specs.Commands.{is_single, platform_of}
+use Rattle.macho_unambiguous.specs.Entry.{is_entry, BeginsAtOffset, SaysEntry, IsDataAt, data_entries}
+use Rattle.macho_unambiguous.specs.Files.{entry_bytes, entry_cputype, entry_cpusubtype, header_order, is_wide, is_judged, is_of_64_bits}
+use Rattle.macho_unambiguous.specs.Sections.{segment_name_of}
+use Rattle.macho_unambiguous.specs.Segments.{HasTail}
+
+-- any two answers are the same
+abbrev pub Agree : {A : Type 0} → (A → Type 0) → Type 0
+Agree {A} Answers = (a b : A) → Answers a → Answers b → a ≡ b
+
+-- a reader takes the first of the places with P, or the last
+abbrev pub IsFirstWith : List ℕ → (ℕ → Type 0) → ℕ → Type 0
+IsFirstWith places P place =
+    Contains places place × P place × ((other : ℕ) → Contains places other → other < place → ¬ P other)
+
+abbrev pub IsLastWith : List ℕ → (ℕ → Type 0) → ℕ → Type 0
+IsLastWith places P place =
+    Contains places place × P place × ((other : ℕ) → Contains places other → place < other → ¬ P other)
+
+abbrev pub IsEndWith : List ℕ → (ℕ → Type 0) → ℕ → Type 0
+IsEndWith places P place = IsFirstWith places P place ⊎ IsLastWith places P place
+
+-- What kind of file is it, where it begins with the magic number of a table of fat_arch?
+
+pub data FileKind : Type 0 where
+  UniversalFile : FileKind
+  JavaClass : FileKind
+
+-- a Java class has more entries than a table can have (file(1))
+abbrev pub IsKindByCount : List ℕ → FileKind → Type 0
+IsKindByCount file answer =
+    ((30 < entry_count file) × (answer ≡ JavaClass)) ⊎ ((entry_count file ≤ 30) × (answer ≡ UniversalFile))
+
+-- the last byte of nfat_arch, at 7, is the version of a Java class, which is 43 or more (LLVM)
+abbrev pub IsKindByVersion : List ℕ → FileKind → Type 0
+IsKindByVersion file answer =
+    ((43 ≤ entry_count file % 256) × (answer ≡ JavaClass)) ⊎ ((entry_count file % 256 < 43) × (answer ≡ UniversalFile))
+
+-- the verifier says that it is universal
+abbrev pub IsKindOfFile : List ℕ → FileKind → Type 0
+IsKindOfFile file answer =
+    (answer ≡ UniversalFile) ⊎ (IsKindByCount file answer ⊎ IsKindByVersion file answer)
+
+abbrev pub HasOneKindOfFile : List ℕ → Type 0
+HasOneKindOfFile file =
+    fat.FAT_HEADER_SIZE ≤ length file → number Big 4 file 0 ≡ fat.FAT_MAGIC → Agree (IsKindOfFile file)
+
+-- Which subtype does a slice have that is read? The entry says it, and the header.
+
+abbrev pub IsSubtypeOf : List ℕ → ℕ → ℕ → Type 0
+IsSubtypeOf file k answer =
+    (answer ≡ entry_cpusubtype file k) ⊎ (field Little 4 (entry_bytes file k) 8 ≡ Some answer)
+
+abbrev pub HasOneSubtype : List ℕ → Type 0
+HasOneSubtype file =
+    IsUniversal file → (k : ℕ) → k < entry_count file → IsImage (entry_bytes file k) → Agree (IsSubtypeOf file k)
+
+-- Which slices are there for a judged processor? A reader takes those whose entry has the cputype (xnu), those whose
+-- header has it (LLVM, Go), those whose entry has it and whose magic number has its width, or those whose entry has it
+-- and that are read (the verifier).
+
+abbrev pub IsSliceByHeader : List ℕ → ℕ → ℕ → Type 0
+IsSliceByHeader file cputype k =
+    let bytes = entry_bytes file k in field (header_order bytes) 4 bytes 4 ≡ Some cputype
+
+abbrev pub IsSliceByWidth : List ℕ → ℕ → ℕ → Type 0
+IsSliceByWidth file cputype k =
+    (entry_cputype file k ≡ cputype) × (is_wide (entry_bytes file k) ≡ is_of_64_bits cputype)
+
+abbrev pub IsSliceThatIsRead : List ℕ → ℕ → ℕ → Type 0
+IsSliceThatIsRead file cputype k = (entry_cputype file k ≡ cputype) × IsImage (entry_bytes file k)
+
+-- the others take those whose entry has the cputype
+abbrev pub TakeSameSlice : List ℕ → ℕ → ℕ → Type 0
+TakeSameSlice file cputype k =
+    (IsSliceByHeader file cputype k ↔ (entry_cputype file k ≡ cputype))
+    × (IsSliceByWidth file cputype k ↔ (entry_cputype file k ≡ cputype))
+    × (IsSliceThatIsRead file cputype k ↔ (entry_cputype file k ≡ cputype))
+
+abbrev pub HasOneSetOfSlices : List ℕ → Type 0
+HasOneSetOfSlices file =
+    IsUniversal file → (cputype : ℕ) → is_judged cputype ≡ true → (k : ℕ) → k < entry_count file
+    → TakeSameSlice file cputype k
+
+-- Which protection does a mapped segment have? initprot, or what of it maxprot and the three bits of vm_prot.h leave.
+
+abbrev pub IsProtectionOf : List ℕ → ℕ → ℕ → Type 0
+IsProtectionOf image segment answer =
+    (answer ≡ initprot image segment)
+    ⊎ (answer ≡ bit_and (bit_and (initprot image segment) (maxprot image segment)) 7)
+
+abbrev pub HasOneProtection : List ℕ → Type 0
+HasOneProtection image =
+    (segment : ℕ) → Contains (all_segments image) segment → 0 < vmsize image segment
+    → Agree (IsProtectionOf image segment)
+
+-- Which segment has a name? The first with it, the last, or the first whose 16 bytes are the name and zeros.
+
+abbrev pub IsSegmentOfName : List ℕ → List ℕ → ℕ → Type 0
+IsSegmentOfName image name answer =
+    IsEndWith (all_segments image) (λ segment. segment_name image segment ≡ name) answer
+    ⊎ IsFirstWith (all_segments image)
+    (λ segment. (segment_name image segment ≡ name) × ¬ HasTail image (segment + 8)) answer
+
+abbrev pub HasOneSegmentOfName : List ℕ → Type 0
+HasOneSegmentOfName image = (name : List ℕ) → Agree (IsSegmentOfName image name)
+
+-- Where is the base? In the first segment that has the start of the file (the verifier), in the last (xnu), in the first
+-- that is named __TEXT (dyld), or in the last.
+
+abbrev pub IsBaseOf : List ℕ → ℕ → Type 0
+IsBaseOf image answer =
+    (base_of image (commands_of image) ≡ Some answer)
+    ⊎ ((segment : ℕ) × (answer ≡ vmaddr image segment)
+    × (IsLastWith (all_segments image) (λ s. shows_start image s ≡ true) segment
+    ⊎ IsEndWith (all_segments image) (IsText image) segment))
+
+abbrev pub HasOneBase : List ℕ → Type 0
+HasOneBase image = Agree (IsBaseOf image)
+
+-- Which section has a name in a segment with a name? The first, or the last, by the two names of the section (LLVM, Go),
+-- or by its own and the segment's (getsectbyname).
+
+abbrev pub IsFirstSectionWith : List ℕ → (ℕ × ℕ → Type 0) → ℕ → Type 0
+IsFirstSectionWith image P place =
+    (section : ℕ × ℕ) × (place ≡ section.1) × Contains (sections_of image (commands_of image)) section × P section
+    × ((other : ℕ × ℕ) → Contains (sections_of image (commands_of image)) other → other.1 < place → ¬ P other)
+
+abbrev pub IsLastSectionWith : List ℕ → (ℕ × ℕ → Type 0) → ℕ → Type 0
+IsLastSectionWith image P place =
+    (section : ℕ × ℕ) × (place ≡ section.1) × Contains (sections_of image (commands_of image)) section × P section
+    × ((other : ℕ × ℕ) → Contains (sections_of image (commands_of image)) other → place < other.1 → ¬ P other)
+
+abbrev pub HasNames : List ℕ → List ℕ → List ℕ → ℕ × ℕ → Type 0
+HasNames image segment name section =
+    (section_name image section.1 ≡ name) × (segment_name_of image section.1 ≡ segment)
+
+abbrev pub HasNameInSegment : List ℕ → List ℕ → List ℕ → ℕ × ℕ → Type 0
+HasNameInSegment image segment name section =
+    (section_name image section.1 ≡ name) × (segment_name image section.0 ≡ segment)
+
+abbrev pub IsSectionOfNames : List ℕ → List ℕ → List ℕ → ℕ → Type 0
+IsSectionOfNames image segment name answer =
+    IsFirstSectionWith image (HasNames image segment name) answer
+    ⊎ (IsLastSectionWith image (HasNames image segment name) answer
+    ⊎ (IsFirstSectionWith image (HasNameInSegment image segment name) answer
+    ⊎ IsLastSectionWith image (HasNameInSegment image segment name) answer))
+
+abbrev pub HasOneSectionOfNames : List ℕ → Type 0
+HasOneSectionOfNames image = (segment name : List ℕ) → Agree (IsSectionOfNames image segment name)
+
+-- Which is the dylinker, the encrypted range, .. of an image, and which command has the versions of a platform? The
+-- first, or the last.
+
+abbrev pub HasOneCommandOfKind : List ℕ → Type 0
+HasOneCommandOfKind image =
+    (cmd : ℕ) → is_single cmd ≡ true
+    → Agree (IsEndWith (commands_of image) (λ command. command_cmd image command ≡ cmd))
+
+abbrev pub HasOnePlatform : List ℕ → Type 0
+HasOnePlatform image =
+    (platform : ℕ)
+    → Agree (IsEndWith (commands_of image) (λ command. platform_of image command ≡ Some platform))
+
+-- Where does the program begin? By the first of LC_MAIN and the threads, or by the last.
+
+abbrev pub IsEntryCommand : List ℕ → ℕ → Type 0
+IsEntryCommand image = IsEndWith (commands_of image) (λ command. is_entry (command_cmd image command) ≡ true)
+
+-- of such a command: a reader looks for an entry in programs alone; it takes the offset of LC_MAIN for one in the file;
+-- and it takes what is data for no code
+pub record IsPlainEntry (image : List ℕ) (command : ℕ) : Type 0 where
+  pub program : IsKind image kind.Execute
+  pub offset : command_cmd image command ≡ loader.LC_MAIN → BeginsAtOffset image command
+  pub code : (address : ℕ) → SaysEntry image command address → ¬ IsDataAt image (data_entries image) address
+
+pub record HasOneEntry (image : List ℕ) : Type 0 where
+  pub one : Agree (IsEntryCommand image)
+  pub plain : (command : ℕ) → IsEntryCommand image command → IsPlainEntry image command

@@ -1,0 +1,45 @@
+//! What follows from the definitions alone: under each rule the readers that it is about give one answer. Each law is the
+//! contract of a function that does nothing when it is called: the premises are its `requires`, the conclusion its
+//! `ensures`.
+
+ghost use Rattle.std.specs.Prelude.{ℕ};
+ghost use Rattle.macho_unambiguous.specs.Commands.{BreaksCommandOnce};
+ghost use Rattle.macho_unambiguous.specs.Files.{BreaksFatCount, BreaksFatHeader};
+ghost use Rattle.macho_unambiguous.specs.Models.{HasOneKindOfFile, HasOneSubtype, HasOneSetOfSlices, HasOneProtection, HasOneSegmentOfName, HasOneCommandOfKind};
+ghost use Rattle.macho_unambiguous.specs.Segments.{BreaksSegmentProtection, BreaksSegmentName};
+
+/// All readers see a universal file, and not a Java class.
+pub fn file_has_one_kind(file: &[u8])
+    requires { (place : ℕ) → ¬ BreaksFatCount file.now place }
+    ensures { HasOneKindOfFile file.now }
+{}
+
+/// All readers see one subtype of a slice.
+pub fn slice_has_one_subtype(file: &[u8])
+    requires { (place : ℕ) → ¬ BreaksFatHeader file.now place }
+    ensures { HasOneSubtype file.now }
+{}
+
+/// All readers take the same slices for a processor.
+pub fn processor_has_one_set_of_slices(file: &[u8])
+    requires { (place : ℕ) → ¬ BreaksFatHeader file.now place }
+    ensures { HasOneSetOfSlices file.now }
+{}
+
+/// All readers see one protection of a segment.
+pub fn segment_has_one_protection(image: &[u8])
+    requires { (place : ℕ) → ¬ BreaksSegmentProtection image.now place }
+    ensures { HasOneProtection image.now }
+{}
+
+/// All readers find one segment with a name.
+pub fn name_has_one_segment(image: &[u8])
+    requires { (place : ℕ) → ¬ BreaksSegmentName image.now place }
+    ensures { HasOneSegmentOfName image.now }
+{}
+
+/// All readers take one command of a kind.
+pub fn kind_has_one_command(image: &[u8])
+    requires { (place : ℕ) → ¬ BreaksCommandOnce image.now place }
+    ensures { HasOneCommandOfKind image.now }
+{}
