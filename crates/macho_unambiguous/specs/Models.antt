@@ -1,9 +1,9 @@
 -- The answers of readers, question by question, and that all of them agree. A model of a reader is a relation between a
 -- question and an answer. It may have none: a reader that refuses shows no other program.
-use Rattle.std.specs.Prelude.{◌≡◌, ℕ, ◌+◌, ◌%◌, ◌≤◌, ◌<◌, ◌⊎◌, ◌↔◌, List, length, Contains, Some, bit_and, true}
+use Rattle.std.specs.Prelude.{◌≡◌, ℕ, ◌+◌, ◌%◌, ◌≤◌, ◌<◌, ◌⊎◌, ◌↔◌, List, length, Contains, Some, IsSomeAnd, bit_and, true}
 use Rattle.macho_fields.specs.Field.{number, field}
 use Rattle.macho_fields.specs.Image.{command_cmd, commands_of}
-use Rattle.macho_fields.specs.Segment.{all_segments, base_of, vmaddr, vmsize, initprot, shows_start}
+use Rattle.macho_fields.specs.Segment.{all_segments, base_of, vmaddr, vmsize, initprot, entryoff, shows_start}
 use Rattle.macho_fields.specs.Universal.{IsUniversal, IsImage, entry_count}
 use Rattle.macho_fields.specs.declared.bytes.Order.TheVariants.{Big, Little}
 use Rattle.macho_fields.specs.declared.file_type.Kind.TheVariants as kind
@@ -13,7 +13,7 @@ use Rattle.macho_image.specs.Header.{IsKind}
 use Rattle.macho_image.specs.Segment.{sections_of, maxprot, section_name, segment_name}
 use Rattle.macho_tables.specs.Segments.{IsText}
 use Rattle.macho_unambiguous.specs.Commands.{is_single, platform_of}
-use Rattle.macho_unambiguous.specs.Entry.{is_entry, BeginsAtOffset, SaysEntry, IsDataAt, data_entries}
+use Rattle.macho_unambiguous.specs.Entry.{is_entry, IsFilePlace, SaysEntry, IsDataAt, data_entries}
 use Rattle.macho_unambiguous.specs.Files.{entry_bytes, entry_cputype, entry_cpusubtype, header_order, is_wide, is_judged, is_of_64_bits}
 use Rattle.macho_unambiguous.specs.Sections.{segment_name_of}
 use Rattle.macho_unambiguous.specs.Segments.{HasTail}
@@ -181,13 +181,20 @@ HasOnePlatform image =
 abbrev pub IsEntryCommand : List ℕ → ℕ → Type 0
 IsEntryCommand image = IsEndWith (commands_of image) (λ command. is_entry (command_cmd image command) ≡ true)
 
--- of such a command: a reader looks for an entry in programs alone; it takes the offset of LC_MAIN for one in the file;
--- and it takes what is data for no code
-pub record IsPlainEntry (image : List ℕ) (command : ℕ) : Type 0 where
-  pub program : IsKind image kind.Execute
-  pub offset : command_cmd image command ≡ loader.LC_MAIN → BeginsAtOffset image command
-  pub code : (address : ℕ) → SaysEntry image command address → ¬ IsDataAt image (data_entries image) address
+-- Which byte of the file is there, by an LC_MAIN? The one that a segment has so far past the base (the verifier), or the
+-- one that is so far in the file.
+abbrev pub IsEntryPlace : List ℕ → ℕ → ℕ → Type 0
+IsEntryPlace image main answer =
+    IsSomeAnd (base_of image (commands_of image)) (λ base.
+    IsFilePlace image (base + entryoff image main) answer)
+    ⊎ (answer ≡ entryoff image main)
 
 pub record HasOneEntry (image : List ℕ) : Type 0 where
   pub one : Agree (IsEntryCommand image)
-  pub plain : (command : ℕ) → IsEntryCommand image command → IsPlainEntry image command
+  -- readers that look for an entry in programs alone find it too
+  pub program : (command : ℕ) → IsEntryCommand image command → IsKind image kind.Execute
+  pub place : (main : ℕ) → IsEntryCommand image main → command_cmd image main ≡ loader.LC_MAIN
+      → Agree (IsEntryPlace image main)
+  -- readers that show data in code as data show none there
+  pub code : (command address : ℕ) → IsEntryCommand image command → SaysEntry image command address
+      → ¬ IsDataAt image (data_entries image) address

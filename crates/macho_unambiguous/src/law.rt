@@ -2,10 +2,14 @@
 //! contract of a function that does nothing when it is called: the premises are its `requires`, the conclusion its
 //! `ensures`.
 
-ghost use Rattle.std.specs.Prelude.{ℕ};
+ghost use Rattle.std.specs.Prelude.{ℕ, None};
+ghost use Rattle.macho_fields.specs.Layers.{NothingBreaks};
+ghost use Rattle.macho_fields.specs.Rules.{BreaksImage};
 ghost use Rattle.macho_unambiguous.specs.Commands.{BreaksCommandOnce};
+ghost use Rattle.macho_unambiguous.specs.Entry.{BreaksEntryOne};
 ghost use Rattle.macho_unambiguous.specs.Files.{BreaksFatCount, BreaksFatHeader};
-ghost use Rattle.macho_unambiguous.specs.Models.{HasOneKindOfFile, HasOneSubtype, HasOneSetOfSlices, HasOneProtection, HasOneSegmentOfName, HasOneCommandOfKind};
+ghost use Rattle.macho_unambiguous.specs.Models.{HasOneKindOfFile, HasOneSubtype, HasOneSetOfSlices, HasOneProtection, HasOneSegmentOfName, HasOneCommandOfKind, HasOnePlatform, HasOneSectionOfNames, HasOneEntry};
+ghost use Rattle.macho_unambiguous.specs.Sections.{BreaksSectionName};
 ghost use Rattle.macho_unambiguous.specs.Segments.{BreaksSegmentProtection, BreaksSegmentName};
 
 /// All readers see a universal file, and not a Java class.
@@ -42,4 +46,23 @@ pub fn name_has_one_segment(image: &[u8])
 pub fn kind_has_one_command(image: &[u8])
     requires { (place : ℕ) → ¬ BreaksCommandOnce image.now place }
     ensures { HasOneCommandOfKind image.now }
+{}
+
+/// All readers take one command for the versions of a platform.
+pub fn platform_has_one_command(image: &[u8])
+    requires { (place : ℕ) → ¬ BreaksCommandOnce image.now place }
+    ensures { HasOnePlatform image.now }
+{}
+
+/// All readers find one section with a name in a segment with a name.
+pub fn names_have_one_section(image: &[u8])
+    requires { (place : ℕ) → ¬ BreaksSectionName image.now place }
+    ensures { HasOneSectionOfNames image.now }
+{}
+
+/// All readers find one entry, at one byte of the file, which none of them shows as data.
+pub fn program_has_one_entry(image: &[u8])
+    requires layout { NothingBreaks (BreaksImage image.now None) }
+    requires entry { (place : ℕ) → ¬ BreaksEntryOne image.now place }
+    ensures { HasOneEntry image.now }
 {}
