@@ -4,3 +4,4 @@ mod FatEntries
 mod Cases
 mod FileModels
 mod ImageModels
+pub mod Platforms

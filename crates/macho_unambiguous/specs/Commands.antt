@@ -2,11 +2,13 @@
 -- (mach-o/loader.h: load_command, encryption_info_command_64, segment_command_64, build_version_command,
 -- version_min_command)
 use Rattle.std.specs.Prelude.{◌≡◌, ◌≢◌, ℕ, ◌+◌, ◌<◌, ◌==◌, ◌||◌, ◌⊎◌, List, [], ◌∷◌, Any, Contains, Option, Some, None, IsSomeAnd, Bool, true, false, is_some, if◌then◌else◌}
+use Rattle.std.specs.Option.{option_map_or}
 use Rattle.macho_fields.specs.Image.{word, command_cmd, commands_of}
 use Rattle.macho_fields.specs.LoadCommands.{structure_of}
 use Rattle.macho_fields.specs.declared.header.loader.TheConstants as loader
 use Rattle.macho_commands.specs.Commands.{is_thread}
 use Rattle.macho_commands.specs.Content.{content_of}
+use Rattle.macho_spans.specs.declared.span.Span.{Span}
 use Rattle.macho_tables.specs.Kinds.{is_one_of}
 use Rattle.macho_tables.specs.Segments.{is_protected}
 
@@ -69,12 +71,21 @@ platform_of image command =
     if command_cmd image command == loader.LC_BUILD_VERSION then Some (word image (command + 8))
     else version_platform (command_cmd image command)
 
--- an earlier command is of the same such kind
+-- an earlier command has this cmd
+abbrev pub RepeatsCmd : List ℕ → ℕ → ℕ → Type 0
+RepeatsCmd image cmd command =
+    Any (λ earlier. (earlier < command) × (command_cmd image earlier ≡ cmd)) (commands_of image)
+
+-- the command is of such a kind, and an earlier one is of the same kind
 abbrev pub RepeatsSingle : List ℕ → ℕ → Type 0
 RepeatsSingle image command =
-    (is_single (command_cmd image command) ≡ true)
-    × Any (λ earlier. (earlier < command)
-    × (command_cmd image earlier ≡ command_cmd image command)) (commands_of image)
+    (is_single (command_cmd image command) ≡ true) × RepeatsCmd image (command_cmd image command) command
+
+-- the one place that numbers the platform, or no place
+abbrev pub platform_span : List ℕ → ℕ → Span
+platform_span image command =
+    option_map_or (λ platform. record { start = platform; len = 1 }) (platform_of image command)
+    (record { start = 0; len = 0 })
 
 -- an earlier command has versions of the same platform
 abbrev pub RepeatsPlatform : List ℕ → ℕ → Type 0
