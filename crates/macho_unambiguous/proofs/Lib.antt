@@ -5,3 +5,4 @@ mod Cases
 mod FileModels
 mod ImageModels
 pub mod Platforms
+mod Bases

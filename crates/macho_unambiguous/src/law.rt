@@ -5,10 +5,12 @@
 ghost use Rattle.std.specs.Prelude.{ℕ, None};
 ghost use Rattle.macho_fields.specs.Layers.{NothingBreaks};
 ghost use Rattle.macho_fields.specs.Rules.{BreaksImage};
+ghost use Rattle.macho_fields.specs.declared.rule.Rule.{Rule};
+ghost use Rattle.macho_strict.specs.Rules.{BreaksStrictImage};
 ghost use Rattle.macho_unambiguous.specs.Commands.{BreaksCommandOnce};
 ghost use Rattle.macho_unambiguous.specs.Entry.{BreaksEntryOne};
 ghost use Rattle.macho_unambiguous.specs.Files.{BreaksFatCount, BreaksFatHeader};
-ghost use Rattle.macho_unambiguous.specs.Models.{HasOneKindOfFile, HasOneSubtype, HasOneSetOfSlices, HasOneProtection, HasOneSegmentOfName, HasOneCommandOfKind, HasOnePlatform, HasOneSectionOfNames, HasOneEntry};
+ghost use Rattle.macho_unambiguous.specs.Models.{HasOneKindOfFile, HasOneSubtype, HasOneSetOfSlices, HasOneProtection, HasOneSegmentOfName, HasOneBase, HasOneCommandOfKind, HasOnePlatform, HasOneSectionOfNames, HasOneEntry};
 ghost use Rattle.macho_unambiguous.specs.Sections.{BreaksSectionName};
 ghost use Rattle.macho_unambiguous.specs.Segments.{BreaksSegmentProtection, BreaksSegmentName};
 
@@ -40,6 +42,13 @@ pub fn segment_has_one_protection(image: &[u8])
 pub fn name_has_one_segment(image: &[u8])
     requires { (place : ℕ) → ¬ BreaksSegmentName image.now place }
     ensures { HasOneSegmentOfName image.now }
+{}
+
+/// All readers take one address for the base.
+pub fn image_has_one_base(image: &[u8])
+    requires overlap { (place : ℕ) → ¬ BreaksStrictImage image.now Rule.SegmentFileOverlap place }
+    requires name { (place : ℕ) → ¬ BreaksSegmentName image.now place }
+    ensures { HasOneBase image.now }
 {}
 
 /// All readers take one command of a kind.
