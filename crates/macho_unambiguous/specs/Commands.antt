@@ -37,7 +37,7 @@ BreaksBytesEncrypted image place = Contains (commands_of image) place × HasEncr
 
 -- Known commands
 
--- a profile says what a command with this cmd is: a listed command, a thread, or a held one
+-- a profile knows a command with this cmd: a listed command, a thread, or a held one
 abbrev pub is_known : ℕ → Bool
 is_known cmd = is_some (structure_of cmd) || (is_thread cmd || is_some (content_of cmd))
 
@@ -48,7 +48,7 @@ BreaksCommandKnown image place =
 
 -- Repeated commands
 
--- the kinds of which a reader takes one command, and no profile before this one forbids a second
+-- the kinds that readers expect once, and that no earlier profile limits to one command
 abbrev pub is_single : ℕ → Bool
 is_single =
     is_one_of

@@ -46,14 +46,14 @@ SaysEntry image command address =
     × IsSomeAnd (base_of image (commands_of image)) (λ base. base + entryoff image command ≡ address))
     ⊎ ((is_thread (command_cmd image command) ≡ true) × IsThreadEntry image address)
 
--- LC_DATA_IN_CODE: the bytes of its entries, none where an image has no such command
+-- LC_DATA_IN_CODE: the bytes of its entries. An image without such a command has no bytes of entries.
 abbrev pub data_entries : List ℕ → List ℕ
 data_entries image =
     option_map_or (λ command. let table = table_at image command linkedit_data_table in
     part table.0 table.1 image)
     (first_with_cmd image loader.LC_DATA_IN_CODE (commands_of image)) []
 
--- one of these entries says that the byte at a place of the file is data
+-- an entry says that the byte at a place of the file is data
 abbrev pub SaysData : List ℕ → ℕ → Type 0
 SaysData entries place =
     (k : ℕ) × (k < entry_count entries) × Holds (bytes_of_entry (entry_at entries (entry_place k))) place
@@ -71,7 +71,7 @@ abbrev pub BeginsAtData : List ℕ → List ℕ → ℕ → Type 0
 BeginsAtData entries image command =
     (address : ℕ) × SaysEntry image command address × IsDataAt image entries address
 
--- an earlier command says where the program begins, or the image is no program
+-- an earlier command says where the program begins, or the image is not a program
 abbrev pub IsExtraEntry : List ℕ → ℕ → Type 0
 IsExtraEntry image command = HasEarlier image is_entry command ⊎ (¬ IsKind image kind.Execute)
 

@@ -23,6 +23,7 @@ ShiftsLibrary image command =
 abbrev pub ShiftsNumber : List ℕ → ℕ → Type 0
 ShiftsNumber image command = ShiftsSegment image command ⊎ ShiftsLibrary image command
 
--- the rule number-shift, at the place of a command
+-- The rule number-shift, at the place of a command. Its part on the segments that fixups name, and on the sections at
+-- their starts, is not stated here.
 abbrev pub BreaksNumberShift : List ℕ → ℕ → Type 0
 BreaksNumberShift image place = Contains (commands_of image) place × ShiftsNumber image place

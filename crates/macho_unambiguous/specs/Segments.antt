@@ -37,7 +37,7 @@ abbrev pub ExceedsMaximum : List ℕ → ℕ → Type 0
 ExceedsMaximum image segment =
     bit_and (initprot image segment) (maxprot image segment) ≢ initprot image segment
 
--- initprot has a bit besides those of reading, writing and execution
+-- initprot has a bit besides read, write and execute
 abbrev pub HasOtherBits : List ℕ → ℕ → Type 0
 HasOtherBits image segment =
     vm_prot.VM_PROT_READ + vm_prot.VM_PROT_WRITE + vm_prot.VM_PROT_EXECUTE < initprot image segment

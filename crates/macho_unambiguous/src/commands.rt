@@ -28,14 +28,14 @@ pub fn bytes_encrypted(image: &Image) -> Option<u64>
     )
 }
 
-/// The place of the first command of which no profile says what it is.
+/// The place of the first command that no profile knows.
 pub fn command_known(image: &Image) -> Option<u64>
     ensures { IsLeastPlace (BreaksCommandKnown image.now) result }
 {
     place_of(image.commands().find(|command| !is_known(command.cmd)))
 }
 
-// Whether a profile says what a command with this `cmd` is.
+// Whether a profile knows a command with this `cmd`.
 fn is_known(cmd: u32) -> bool
     ensures { result ≡ is_known_of cmd }
 {

@@ -28,8 +28,8 @@ use macho_tables::data_in_code::DataInCodeEntry;
 use macho_tables::data_table::data_table;
 use macho_tables::place::place_of;
 
-/// The place of the first command that says where a program begins, if an earlier one does, if the image is no
-/// program, or if readers find other bytes there: an offset in the file that is not the entry's, or data.
+/// The place of the first command that says where a program begins, if an earlier command says it too, if the image is
+/// not a program, or if readers find other bytes there: bytes at another offset of the file, or data.
 pub fn entry_one(image: &Image) -> Option<u64>
     requires { NothingBreaks (Breaks image.now None) }
     ensures { IsLeastPlace (BreaksEntryOne image.now) result }
@@ -65,7 +65,7 @@ fn is_entry(cmd: u32) -> bool
     cmd == LC_MAIN || is_thread(cmd)
 }
 
-// Whether an earlier command says where the program begins, the image is no program, or readers find another entry.
+// Whether an earlier command says where the program begins, the image is not a program, or readers find another entry.
 fn is_bad_entry(image: &Image, command: &Command, entries: Bytes) -> bool
     requires { IsCommandOf image.now (command_of command.now) }
     ensures { IsTrue result ↔ IsBadEntry (bytes_of entries.entry) image.now command.now.place }
@@ -73,7 +73,7 @@ fn is_bad_entry(image: &Image, command: &Command, entries: Bytes) -> bool
     is_extra_entry(image, command) || is_other_entry(image, command, entries)
 }
 
-// Whether an earlier command says where the program begins, or the image is no program.
+// Whether an earlier command says where the program begins, or the image is not a program.
 fn is_extra_entry(image: &Image, command: &Command) -> bool
     ensures { IsTrue result ↔ IsExtraEntry image.now command.now.place }
 {
@@ -177,7 +177,7 @@ fn data_entries<'a>(image: &Image<'a>) -> Bytes<'a>
     }
 }
 
-// Whether the entry that the command names is a byte of the file that is data by the entries of these bytes.
+// Whether the program begins at a byte of the file that an entry says is data.
 fn begins_at_data(image: &Image, command: &Command, entries: Bytes) -> bool
     requires { IsCommandOf image.now (command_of command.now) }
     ensures { IsTrue result ↔ BeginsAtData (bytes_of entries.entry) image.now command.now.place }
@@ -223,7 +223,7 @@ fn wide(number: Option<u64>) -> Option<u128>
     }
 }
 
-// Whether some segment has a byte of the file at the address that the entries of these bytes say is data.
+// Whether some segment has a byte of the file at the address, and an entry says that the byte is data.
 fn is_data_at(image: &Image, entries: Bytes, address: u128) -> bool
     ensures { IsTrue result ↔ IsDataAt image.now (bytes_of entries.entry) address }
 {
@@ -242,7 +242,7 @@ fn has_data_at(segment: &Segment, entries: Bytes, address: u128) -> bool
     }
 }
 
-// Whether an entry of these bytes says that the byte at this place of the file is data.
+// Whether an entry says that the byte at this place of the file is data.
 fn says_data(entries: Bytes, place: u128) -> bool
     ensures { IsTrue result ↔ SaysData (bytes_of entries.entry) place }
 {

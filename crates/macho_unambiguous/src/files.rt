@@ -18,8 +18,8 @@ use macho_fields::header::machine::{CPU_TYPE_ARM64, CPU_TYPE_X86_64};
 use macho_fields::{Bytes, Order};
 use macho_rules::Verified;
 
-/// From how many entries on a reader takes a file with `FAT_MAGIC` for a Java class. (`file(1)` takes the number of
-/// entries for the version of a class, of which the least is 45, and looks for at most 30 entries.)
+/// From how many entries on a reader takes a file with `FAT_MAGIC` for a Java class. `file(1)` takes a file for a class
+/// if it has more than 30 entries: the version of a class is in the place of their number.
 pub const LEAST_CLASS_COUNT: u64 = 31;
 
 /// The bit of the `cputype` of a processor of 64 bits. (`mach/machine.h`)

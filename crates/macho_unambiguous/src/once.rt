@@ -1,4 +1,4 @@
-//! The rule of the commands of which a reader takes one. (`mach-o/loader.h`)
+//! The rule of the commands that readers expect once. (`mach-o/loader.h`)
 
 ghost use Rattle.std.specs.Prelude.{◌≡◌, ◌+◌, ◌≤◌, ◌<◌, ◌↔◌, Contains, IfOk, OnOk, OnErr, IsTrue, length, map};
 ghost use Rattle.macho_fields.specs.FirstPlace.{IsLeastPlace};
@@ -20,9 +20,8 @@ use macho_image::{Command, Image};
 use macho_tables::place::{lesser, place_of};
 use std::alloc::{AllocError, Global};
 
-/// The place of the first command of which a reader takes one, if an earlier one is of the same kind, or has versions
-/// of the same platform. For n commands it takes time in the order of n log n, and 24 bytes of memory for each, to sort
-/// their platforms.
+/// The place of the first command that readers expect once, if an earlier command has the same `cmd`, or has versions of
+/// the same platform. For n commands it takes time in the order of n log n, and memory for each, to sort their platforms.
 pub fn command_once(alloc: Global, image: &Image) -> Result<Option<u64>, AllocError>
     ensures least { IfOk result (IsLeastPlace (BreaksCommandOnce image.now)) }
     ensures memory { OnErr result (0 < length (commands_of image.now)) }
@@ -32,7 +31,7 @@ pub fn command_once(alloc: Global, image: &Image) -> Result<Option<u64>, AllocEr
     Ok(lesser(single, platform))
 }
 
-// The place of the first command of a kind of which a reader takes one, if an earlier one is of the same kind.
+// The place of the first command that readers expect once and that an earlier command repeats.
 fn single_repeated(image: &Image) -> Option<u64>
     ensures { IsLeastPlace (λ place.
         Contains (commands_of image.now) place × RepeatsSingle image.now place) result }
@@ -52,7 +51,7 @@ fn repeats_single(image: &Image, command: &Command) -> bool
     is_single(command.cmd) && repeats_earlier(image, command)
 }
 
-// Whether a reader takes one command with this `cmd`.
+// Whether readers expect a command with this `cmd` once.
 fn is_single(cmd: u32) -> bool
     ensures { result ≡ is_single_of cmd }
 {
@@ -78,7 +77,7 @@ fn repeats_earlier(image: &Image, command: &Command) -> bool
     image.commands().any(|earlier| earlier.place < command.place && earlier.cmd == command.cmd)
 }
 
-// The place of the first command with versions of a platform of which an earlier one has versions.
+// The place of the first command with versions of a platform, if an earlier command has versions of it too.
 fn platform_repeated(alloc: Global, image: &Image) -> Result<Option<u64>, AllocError>
     ensures least { IfOk result (IsLeastPlace (λ place.
         Contains (commands_of image.now) place × RepeatsPlatform image.now place)) }

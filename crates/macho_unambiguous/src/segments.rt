@@ -75,7 +75,7 @@ fn exceeds_maximum(segment: &Segment) -> bool
     segment.initprot() & segment.maxprot() != segment.initprot()
 }
 
-// Whether the initial protection has a bit besides those of reading, writing and execution.
+// Whether the initial protection has a bit besides read, write and execute.
 fn has_other_bits(segment: &Segment) -> bool
     ensures { IsTrue result ↔ HasOtherBits segment.now.image segment.now.place }
 {
