@@ -1,13 +1,11 @@
 -- A number's digits, one at a time from the last.
-use Rattle.std.proofs.Common.{◌≡◌, ℕ, ◌+◌, ◌-◌, ◌*◌, ◌/◌, ◌%◌, ◌^◌, ◌<◌, ◌≤◌, ◌==◌, zero, suc, false, true, codes, get_or, subst, List, [], ◌∷◌, ◌++◌, length, take, drop, arith, refl, ap, ◌∙◌, sym, inl, inr, append_assoc, append-nil}
+use Rattle.std.proofs.Common.{◌≡◌, ℕ, ◌+◌, ◌-◌, ◌*◌, ◌/◌, ◌%◌, ◌^◌, ◌<◌, ◌≤◌, ◌==◌, zero, suc, false, true, codes, get_or, List, [], ◌∷◌, ◌++◌, length, drop, arith, refl, ap, ◌∙◌, sym, inl, inr, append_assoc, append-nil}
 use Rattle.std.proofs.Math.Arith.{mod-mul}
 use Rattle.std.proofs.lemmas.Nat.{div-mul-add, mod-mul-add}
 use Rattle.std.proofs.Math.Nat.{le-div_iff_mul-le, div-div-eq-div-mul, mod-lt, div-eq_of_lt, div-lt_iff_lt-mul, mod-eq_of_lt, pow-suc, pow-zero, pow-le-pow_left}
 use Rattle.std.proofs.lemmas.Bool.{agree_below_at, cases_Bool, cases_eq}
-use Rattle.std.proofs.Math.Seq.{drop-append_seam}
-use borrow.Rule.Slice.PartMut.{put_mid}
 use Rattle.std.proofs.lemmas.Grind.{common_steps}
-use Rattle.std.proofs.lemmas.List.{length-append, length-drop}
+use Rattle.std.proofs.lemmas.List.{drop-set, length-append, length-drop}
 use Rattle.std.specs.Prelude.{◌⊎◌, slice_set}
 use Rattle.std.specs.Fmt.{digits, digits_onto, digit_glyph}
 
@@ -83,13 +81,13 @@ one_put base start n after whole below some most which left =
     left.some which ∙ last_digit _ (63 - (20 - start)) base n after first (div-eq_of_lt below) ∙ ap (λ v. digit_glyph false v ∷ after) (mod-eq_of_lt below)
 
 -- digits at the end of what was put
-pub two_set : (start size : ℕ) (places pair : List ℕ) → size ≡ 2 → 2 ≤ start → start ≤ length places
-    → drop (start - 2) (put_mid (start - 2) size places pair) ≡ pair ++ drop start places
-two_set start size places pair e two within =
-    let front : length (take (start - 2) places) ≡ start - 2 = grind (arith, common_steps) in
-    let end : drop size (drop (start - 2) places) ≡ drop start places = grind (arith, common_steps) in
-    subst (λ m. drop m (put_mid (start - 2) size places pair) ≡ pair ++ drop start places) front
-    (drop-append_seam (take (start - 2) places) (pair ++ drop size (drop (start - 2) places)) ∙ ap (λ l. pair ++ l) end)
+pub two_set : (start high low : ℕ) (places : List ℕ) → 2 ≤ start → start ≤ length places
+    → drop (start - 2) (slice_set (slice_set places (start - 2 + 1) low) (start - 2) high) ≡ high ∷ low ∷ drop start places
+two_set start high low places two within =
+    let all : length (slice_set places (start - 2 + 1) low) ≡ length places = grind (arith, common_steps) in
+    let end : start - 2 + 1 + 1 ≡ start = omega arith in
+    drop-set (slice_set places (start - 2 + 1) low) (start - 2) high (omega arith)
+    ∙ ap (λ l. high ∷ l) (drop-set places (start - 2 + 1) low (omega arith) ∙ ap (λ n. low ∷ drop n places) end)
 
 pub one_set : (start digit : ℕ) (places : List ℕ) → 0 < start → start ≤ length places → drop (start - 1) (slice_set places (start - 1) digit) ≡ digit ∷ drop start places
 one_set start digit places some within = grind (arith, common_steps)
@@ -161,6 +159,19 @@ decimal_pair v h =
     same_number _ _ (agree_below_at (λ k. get_or decimal_pairs (2 * k) 0 == digit_glyph false (k / 10)) (λ _. true) 100 v refl h) in
     let low : get_or decimal_pairs (2 * v + 1) 0 ≡ digit_glyph false (v % 10) =
     same_number _ _ (agree_below_at (λ k. get_or decimal_pairs (2 * k + 1) 0 == digit_glyph false (k % 10)) (λ _. true) 100 v refl h) in
+    pair_is _ _ _ _ high low
+
+-- the two digits of each number below 256 in base 16, one after the other
+unfoldable pub hex_pairs : List ℕ
+hex_pairs = codes "000102030405060708090a0b0c0d0e0f101112131415161718191a1b1c1d1e1f202122232425262728292a2b2c2d2e2f303132333435363738393a3b3c3d3e3f404142434445464748494a4b4c4d4e4f505152535455565758595a5b5c5d5e5f606162636465666768696a6b6c6d6e6f707172737475767778797a7b7c7d7e7f808182838485868788898a8b8c8d8e8f909192939495969798999a9b9c9d9e9fa0a1a2a3a4a5a6a7a8a9aaabacadaeafb0b1b2b3b4b5b6b7b8b9babbbcbdbebfc0c1c2c3c4c5c6c7c8c9cacbcccdcecfd0d1d2d3d4d5d6d7d8d9dadbdcdddedfe0e1e2e3e4e5e6e7e8e9eaebecedeeeff0f1f2f3f4f5f6f7f8f9fafbfcfdfeff"
+
+pub hex_pair : (v : ℕ) → v < 256 → get_or hex_pairs (2 * v) 0 ∷ get_or hex_pairs (2 * v + 1) 0 ∷ [] ≡ digit_glyph false (v / 16) ∷ digit_glyph false (v % 16) ∷ []
+unfolding hex_pairs
+hex_pair v h =
+    let high : get_or hex_pairs (2 * v) 0 ≡ digit_glyph false (v / 16) =
+    same_number _ _ (agree_below_at (λ k. get_or hex_pairs (2 * k) 0 == digit_glyph false (k / 16)) (λ _. true) 256 v refl h) in
+    let low : get_or hex_pairs (2 * v + 1) 0 ≡ digit_glyph false (v % 16) =
+    same_number _ _ (agree_below_at (λ k. get_or hex_pairs (2 * k + 1) 0 == digit_glyph false (k % 16)) (λ _. true) 256 v refl h) in
     pair_is _ _ _ _ high low
 
 -- two digits are left of a number that is not a digit

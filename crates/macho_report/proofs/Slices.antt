@@ -1,5 +1,5 @@
 -- The lines of a slice.
-use Rattle.std.proofs.Common.{◌≡◌, ◌∙◌, ℕ, zero, suc, ◌<◌, List, [], ◌∷◌, length, true, false, Option, Some, None}
+use Rattle.std.proofs.Common.{◌≡◌, ◌∙◌, ℕ, zero, suc, ◌<◌, List, [], ◌∷◌, ◌++◌, length, true, false, Option, Some, None}
 use Rattle.std.proofs.Common.{IsSome, IsSomeAnd, Result, arith, refl, sym, ap, ap₂, inl, inr}
 use Rattle.std.proofs.lemmas.Bool.{cases_Bool}
 use Rattle.std.proofs.lemmas.Option.{same_Some}
@@ -8,10 +8,10 @@ use Rattle.std.specs.Prelude.{slice_get}
 use Rattle.macho_fields.specs.Universal.{FileSlice, IsImage, slice_bytes}
 use Rattle.macho_fields.specs.FileTypes.{FileTypeView, file_type_of}
 use Rattle.macho_fields.specs.Image.{file_type}
-use Rattle.macho_report.specs.Writer.{PutsText}
+use Rattle.macho_report.specs.Writer.{HoldsText}
 use Rattle.macho_report.specs.declared.stream.Output as output
 use Rattle.macho_report.specs.Layout.{kind_text, is_image, image_slice_text, unread_slice_text, slice_text}
-use Rattle.macho_report.proofs.Writers.{puts_same}
+use Rattle.macho_report.proofs.Holding.{holds_same}
 
 pub word_is : (image : List ℕ) (listed : FileTypeView) → file_type_of (file_type image) ≡ Some listed → listed.word ≡ kind_text image
 word_is image listed is = sym (ap (λ o. option_map_or (λ (t : FileTypeView). t.word) o []) is)
@@ -32,25 +32,25 @@ module _ (says : List ℕ → List ℕ) (file : List ℕ) (index : ℕ) (slice :
   text_unread : is_image (slice_bytes file slice) ≡ false → slice_text says file (index, slice) ≡ unread_slice_text index slice
   text_unread h = rw h refl
 
-module _ {W T E : Type 0} {o : output.Ghosts W} {a b : W} {r : Result T E} (says : List ℕ → List ℕ) where
+module _ {W T E : Type 0} {o : output.Ghosts W} {a b : W} {r : Result T E} {held : List ℕ} (says : List ℕ → List ℕ) (before : List ℕ) where
   -- the lines of a slice that is read
   pub read_lines : (file image : List ℕ) (index : ℕ) (slices : Option FileSlice) (written : FileSlice) → Some written ≡ slices
       → IsSomeAnd slices (λ slice. IsImage (slice_bytes file slice)) → IsSomeAnd slices (λ slice. image ≡ slice_bytes file slice)
-      → PutsText o a b r (image_slice_text says image index written) → IsSomeAnd slices (λ slice. PutsText o a b r (slice_text says file (index, slice)))
+      → HoldsText o a b r held (before ++ image_slice_text says image index written) → IsSomeAnd slices (λ slice. HoldsText o a b r held (before ++ slice_text says file (index, slice)))
   read_lines file image index None written is read same put = absurd read
   read_lines file image index (Some slice) written is read same put =
       let text : image_slice_text says image index written ≡ slice_text says file (index, slice) =
       ap₂ (λ i s. image_slice_text says i index s) same (same_Some written slice is) ∙ sym (text_read says file index slice (image_is _ read)) in
-      puts_same text put
+      holds_same before text put
 
   -- the line of one that is not
   pub unread_lines : (file : List ℕ) (index : ℕ) (slices : Option FileSlice) (written : FileSlice) → Some written ≡ slices
       → ¬ IsSomeAnd slices (λ slice. IsImage (slice_bytes file slice))
-      → PutsText o a b r (unread_slice_text index written) → IsSomeAnd slices (λ slice. PutsText o a b r (slice_text says file (index, slice)))
+      → HoldsText o a b r held (before ++ unread_slice_text index written) → IsSomeAnd slices (λ slice. HoldsText o a b r held (before ++ slice_text says file (index, slice)))
   unread_lines file index None written is unread put = absurd (cc)
   unread_lines file index (Some slice) written is unread put = elim (cases_Bool (is_image (slice_bytes file slice))) [
     | inl t ↦ absurd (unread (image_from _ t))
-    | inr f ↦ puts_same (ap (unread_slice_text index) (same_Some written slice is) ∙ sym (text_unread says file index slice f)) put
+    | inr f ↦ holds_same before (ap (unread_slice_text index) (same_Some written slice is) ∙ sym (text_unread says file index slice f)) put
   ]
 
 -- the slice with an index that the table has is found

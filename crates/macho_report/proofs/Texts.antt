@@ -1,16 +1,25 @@
 -- The texts of names.
 use Rattle.std.proofs.Common.{◌≡◌, ℕ, ◌-◌, ◌<◌, ◌≤◌, zero, suc, List, [], ◌∷◌, ◌++◌, length}
-use Rattle.std.proofs.Common.{map, take, drop, get_or, false, arith, refl, sym, ap, ◌∙◌, append-nil, IsTrue}
+use Rattle.std.proofs.Common.{map, take, drop, get_or, false, ◌==◌, arith, refl, sym, ap, ◌∙◌, append-nil, IsTrue}
 use Rattle.std.specs.Prelude.{codes}
 use Rattle.macho_report.specs.Stream.{joined}
 use Rattle.macho_report.specs.Number.{byte_hex}
 use Rattle.macho_report.specs.Name.{is_plain, escaped, quoted}
+use Rattle.std.proofs.lemmas.Bool.{agree_below_at}
 use Rattle.std.proofs.lemmas.List.{take_all, drop_all}
 use Rattle.macho_report.proofs.StreamLemmas.{rest_is}
 use Rattle.macho_report.proofs.Puts.{put_next, put_last}
 
 escaped_plain : (byte : ℕ) → IsTrue (is_plain byte) → escaped byte ≡ byte ∷ []
 escaped_plain byte plain = grind arith
+
+-- `1` for each plain byte
+unfoldable pub plain_bytes : List ℕ
+plain_bytes = codes "0000000000000000000000000000000011011111111111111111111111111111111111111111111111111111111101111111111111111111111111111111111000000000000000000000000000000000000000000000000000000000000000000000000000000000000000000000000000000000000000000000000000000000"
+
+pub listed_plain : (byte : ℕ) → byte < 256 → (get_or plain_bytes byte 0 == 49) ≡ is_plain byte
+unfolding plain_bytes
+listed_plain byte h = agree_below_at (λ k. get_or plain_bytes k 0 == 49) is_plain 256 byte refl h
 
 -- any other byte is written as its digits
 pub escaped_other : (byte : ℕ) → is_plain byte ≡ false → escaped byte ≡ joined (codes "\\x" ∷ byte_hex byte ∷ [])

@@ -3,7 +3,7 @@ use Rattle.std.specs.Prelude.{ℕ, ◌==◌, List, [], ◌∷◌, ◌++◌, code
 use Rattle.macho_fields.specs.declared.header.loader.TheConstants as loader
 use Rattle.macho_image.specs.Library.{DylibView}
 use Rattle.macho_report.specs.Line.{library_word, library_line}
-use Rattle.macho_report.specs.Number.{prefixed_hex}
+use Rattle.macho_report.specs.Number.{hex}
 use Rattle.macho_report.specs.Stream.{joined}
 
 -- the line of a library as an image gives it, and nothing for the image itself
@@ -12,10 +12,10 @@ linked_text library =
     if library.cmd == loader.LC_ID_DYLIB then []
     else library_line library.cmd library.name library.current library.compatible
 
--- a part of memory or of a file: a word, its first place, and its size
+-- a part of memory or of a file: a word that ends in `0x`, its first place, and its size
 abbrev pub extent_text : List ℕ → ℕ → ℕ → List ℕ
 extent_text word start size =
-    joined (word ∷ prefixed_hex start ∷ codes " size " ∷ prefixed_hex size ∷ [])
+    joined (word ∷ hex start ∷ codes " size 0x" ∷ hex size ∷ [])
 
 -- how the line of a library begins, which is one part of it
 abbrev pub library_start : ℕ → List ℕ

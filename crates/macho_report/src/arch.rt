@@ -23,7 +23,7 @@ impl Line {
             return;
         };
         match arch_name(arch) {
-            Some(name) => self.text(name.as_bytes()),
+            Some(name) => self.bytes(name.as_bytes()),
             None => self.arch_numbers(arch),
         }
     }

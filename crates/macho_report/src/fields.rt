@@ -10,16 +10,17 @@ use crate::line::{Line, PLACES};
 use macho_fields::header::vm_prot::{VM_PROT_EXECUTE, VM_PROT_READ, VM_PROT_WRITE};
 
 impl Line {
-    // Puts a part of memory or of a file: a word, its first place, and its size.
-    pub(crate) fn extent(&mut self, word: &[u8], start: u64, size: u64)
-        requires room { length self.old + length word.now + 50 ≤ PLACES }
+    // Puts a part of memory or of a file: a word that ends in `0x`, its first place, and its size.
+    #[inline(always)]
+    pub(crate) fn extent<const N: usize>(&mut self, word: &[u8; N], start: u64, size: u64)
+        requires room { length self.old + length word.now + 48 ≤ PLACES }
         ensures text { self.new ≡ self.old ++ extent_text word.now start size }
-        ensures end { length self.new ≤ length self.old + length word.now + 50 }
+        ensures end { length self.new ≤ length self.old + length word.now + 48 }
     {
         self.text(word);
-        self.hex(start);
-        self.text(b" size ");
-        self.hex(size);
+        self.bare_hex(start);
+        self.text(b" size 0x");
+        self.bare_hex(size);
     }
 
     // Puts a UUID, its bytes in groups of 4, 2, 2, 2 and 6.

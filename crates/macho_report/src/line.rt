@@ -1,4 +1,4 @@
-//! A line of the report, which is put together in an array and written at once.
+//! The lines of the report, which are put together in an array. The array is written when it is full.
 
 ghost use Rattle.std.specs.Prelude.{◌≡◌, ◌+◌, ◌≤◌, ◌<◌, ◌↔◌, [], ◌++◌, codes, length, take, IsErr, IsTrue, OnOk};
 ghost use Rattle.macho_report.specs.Writer.{PutsText, HoldsText};
@@ -7,13 +7,16 @@ use crate::stream::Output;
 use crate::transfer::{WriteFault, write_all};
 use std::marker::Model;
 
-// How many bytes of a line are held before they are written.
-pub(crate) const PLACES: usize = 320;
+// How many bytes are held at most before they are written.
+pub(crate) const PLACES: usize = 1024;
+
+// How many bytes there is room for at the start of a line.
+pub(crate) const LINE_ROOM: usize = 320;
 
 // How many bytes there is room for after a name or a word.
 pub(crate) const ROOM: usize = 160;
 
-// The bytes of a line that are not written yet.
+// A line, after others that are not written yet: the bytes of them all.
 #[derive(Drop)]
 pub(crate) struct Line {
     places: [u8; PLACES],
@@ -27,11 +30,11 @@ impl Model for Line {
 
     ghost view = { λ line. take line.len line.places };
 
-    ghost invariant = { λ line. line.len ≤ 320 };
+    ghost invariant = { λ line. line.len ≤ 1024 };
 }
 
 impl Line {
-    // A line without bytes.
+    // A line without bytes, after no others.
     #[inline(always)]
     pub(crate) fn new() -> Line
         ensures { result ≡ [] }
@@ -42,13 +45,35 @@ impl Line {
         }
     }
 
-    // Puts a text.
+    // Begins a line after those that are held. Without room for it, they are written first.
     #[inline(always)]
-    pub(crate) fn text(&mut self, text: &[u8])
+    pub(crate) fn begin<W: Output>(&mut self, writer: &mut W) -> Result<(), WriteFault>
+        ensures room { OnOk result (length self.new + LINE_ROOM ≤ PLACES) }
+        ensures text { HoldsText W.Output writer.old writer.new result self.new self.old }
+    {
+        if self.len <= PLACES - LINE_ROOM {
+            return Ok(());
+        }
+        self.hand_on(writer)
+    }
+
+    // Puts a text. If it is a constant, this takes a few instructions.
+    #[inline(always)]
+    pub(crate) fn text<const N: usize>(&mut self, text: &[u8; N])
         requires room { length self.old + length text.now ≤ PLACES }
         ensures { self.new ≡ self.old ++ text.now }
     {
-        self.front(text, text.len());
+        put_text(&mut self.places, self.len, text);
+        self.len += N;
+    }
+
+    // Puts some bytes.
+    #[inline(always)]
+    pub(crate) fn bytes(&mut self, bytes: &[u8])
+        requires room { length self.old + length bytes.now ≤ PLACES }
+        ensures { self.new ≡ self.old ++ bytes.now }
+    {
+        self.front(bytes, bytes.len());
     }
 
     // Puts the first `count` of the bytes. They are all copied; if their number is a constant,
@@ -73,7 +98,7 @@ impl Line {
             (self.old ++ word.now) }
     {
         if self.has_room(word.len()) {
-            self.text(word);
+            self.bytes(word);
             return Ok(());
         }
         self.word_anew(word, writer)
@@ -89,7 +114,7 @@ impl Line {
     {
         self.hand_on(writer)?;
         if self.has_room(word.len()) {
-            self.text(word);
+            self.bytes(word);
             return Ok(());
         }
         write_all(word, writer)
@@ -104,7 +129,8 @@ impl Line {
     }
 
     // Writes the bytes that are held. If this succeeds, none is held afterwards.
-    fn hand_on<W: Output>(&mut self, writer: &mut W) -> Result<(), WriteFault>
+    #[inline(never)]
+    pub(crate) fn hand_on<W: Output>(&mut self, writer: &mut W) -> Result<(), WriteFault>
         ensures none { OnOk result (self.new ≡ []) }
         ensures text { PutsText W.Output writer.old writer.new result self.old }
     {
@@ -113,7 +139,7 @@ impl Line {
         Ok(())
     }
 
-    // Ends the line with a line feed, and writes it.
+    // Ends the line with a line feed, and writes the bytes that are held.
     pub(crate) fn write<W: Output>(&mut self, writer: &mut W) -> Result<(), WriteFault>
         requires room { length self.old < PLACES }
         ensures text { PutsText W.Output writer.old writer.new result (self.old ++ codes "\n") }
@@ -121,5 +147,16 @@ impl Line {
     {
         self.text(b"\n");
         write_all(&self.places[..self.len], writer)
+    }
+}
+
+// Puts a text at a place of the array, byte by byte, which the compiler turns into stores of several bytes.
+#[inline(always)]
+fn put_text<const N: usize>(places: &mut [u8; PLACES], start: usize, text: &[u8; N])
+    requires room { start + length text.now ≤ PLACES }
+    ensures { take (start + length text.now) places.new ≡ take start places.old ++ text.now }
+{
+    for count in 0..N {
+        places[start + count] = text[count];
     }
 }

@@ -1,10 +1,10 @@
-//! The lines of the report. Each ends with one line feed.
+//! The lines of the report. Each ends with one line feed. The lines of a layout are held after those before them.
 
-ghost use Rattle.std.specs.Prelude.{◌≡◌, [], IsErr, IsTrue, Some};
+ghost use Rattle.std.specs.Prelude.{◌≡◌, [], ◌++◌, IsErr, IsTrue, Some};
 ghost use Rattle.std.specs.Option.{option_map, option_map_or};
 ghost use Rattle.macho_fields.specs.Segment.{File};
 ghost use Rattle.macho_rules.specs.Source.{source_of};
-ghost use Rattle.macho_report.specs.Writer.{PutsText};
+ghost use Rattle.macho_report.specs.Writer.{PutsText, HoldsText};
 ghost use Rattle.macho_report.specs.Arch.{arch_text};
 ghost use Rattle.macho_report.specs.Line.{cdhash_line, contents_of, count_line, slice_line, uuid_line, build_line, segment_line, section_line, library_line, symbols_line, entry_line};
 ghost use Rattle.macho_report.specs.Text.{break_text, words_line};
@@ -69,74 +69,97 @@ pub(crate) fn write_slice<W: Output>(
     arch: Option<(u32, u32)>,
     span: Span,
     kind: &str,
+    line: &mut Line,
     writer: &mut W,
 ) -> Result<(), WriteFault>
-    ensures { PutsText W.Output writer.old writer.new result
-        (slice_line index (option_map_or arch_text arch []) span.start span.len kind.now) }
+    ensures { HoldsText W.Output writer.old writer.new result line.new
+        (line.old ++ slice_line index (option_map_or arch_text arch []) span.start span.len kind.now) }
 {
-    let mut line = Line::new();
+    line.begin(writer)?;
     line.text(b"slice ");
     line.decimal(index);
     line.text(b" ");
     line.arch(arch);
-    line.extent(b" at ", span.start, span.len);
+    line.extent(b" at 0x", span.start, span.len);
     line.text(b" ");
     line.word(kind.as_bytes(), writer)?;
-    line.write(writer)
+    line.text(b"\n");
+    Ok(())
 }
 
 // Writes the line of a UUID.
-pub(crate) fn write_uuid<W: Output>(uuid: &[u8; 16], writer: &mut W) -> Result<(), WriteFault>
-    ensures { PutsText W.Output writer.old writer.new result (uuid_line uuid.now) }
+pub(crate) fn write_uuid<W: Output>(
+    uuid: &[u8; 16],
+    line: &mut Line,
+    writer: &mut W,
+) -> Result<(), WriteFault>
+    ensures { HoldsText W.Output writer.old writer.new result line.new
+        (line.old ++ uuid_line uuid.now) }
 {
-    let mut line = Line::new();
+    line.begin(writer)?;
     line.text(b"  uuid ");
     line.uuid(uuid);
-    line.write(writer)
+    line.text(b"\n");
+    Ok(())
 }
 
 // Writes the line of a build: its platform and two versions.
-pub(crate) fn write_build<W: Output>(build: &Build, writer: &mut W) -> Result<(), WriteFault>
-    ensures { PutsText W.Output writer.old writer.new result
-        (build_line build.now.platform build.now.minos build.now.sdk) }
+pub(crate) fn write_build<W: Output>(
+    build: &Build,
+    line: &mut Line,
+    writer: &mut W,
+) -> Result<(), WriteFault>
+    ensures { HoldsText W.Output writer.old writer.new result line.new
+        (line.old ++ build_line build.now.platform build.now.minos build.now.sdk) }
 {
-    let mut line = Line::new();
+    line.begin(writer)?;
     line.text(b"  build platform ");
     line.decimal(u64::from(build.platform));
     line.text(b" min ");
     line.version(build.minos);
     line.text(b" sdk ");
     line.version(build.sdk);
-    line.write(writer)
+    line.text(b"\n");
+    Ok(())
 }
 
 // Writes the line of a segment: its name, its memory, its bytes in the image, and its protection.
-pub(crate) fn write_segment<W: Output>(segment: &Segment, writer: &mut W) -> Result<(), WriteFault>
-    ensures { PutsText W.Output writer.old writer.new result
-        (segment_line segment.now.image segment.now.place) }
+pub(crate) fn write_segment<W: Output>(
+    segment: &Segment,
+    line: &mut Line,
+    writer: &mut W,
+) -> Result<(), WriteFault>
+    ensures { HoldsText W.Output writer.old writer.new result line.new
+        (line.old ++ segment_line segment.now.image segment.now.place) }
 {
-    let mut line = Line::new();
+    line.begin(writer)?;
     line.text(b"  segment ");
     line.name(segment.name(), writer)?;
-    line.extent(b" addr ", segment.vmaddr(), segment.vmsize());
-    line.extent(b" file ", segment.fileoff(), segment.filesize());
+    line.extent(b" addr 0x", segment.vmaddr(), segment.vmsize());
+    line.extent(b" file 0x", segment.fileoff(), segment.filesize());
     line.text(b" ");
     line.protection(segment.initprot());
-    line.write(writer)
+    line.text(b"\n");
+    Ok(())
 }
 
 // Writes the line of a section: its name, its memory, and where its bytes begin in the image.
-pub(crate) fn write_section<W: Output>(section: &Section, writer: &mut W) -> Result<(), WriteFault>
-    ensures { PutsText W.Output writer.old writer.new result
-        (section_line section.now.image section.now.place) }
+pub(crate) fn write_section<W: Output>(
+    section: &Section,
+    line: &mut Line,
+    writer: &mut W,
+) -> Result<(), WriteFault>
+    ensures { HoldsText W.Output writer.old writer.new result line.new
+        (line.old ++ section_line section.now.image section.now.place) }
 {
-    let mut line = Line::new();
+    line.begin(writer)?;
     line.text(b"    section ");
     line.name(section.name(), writer)?;
-    line.extent(b" addr ", section.addr(), section.size());
+    line.extent(b" addr 0x", section.addr(), section.size());
     line.text(b" ");
     line.contents(contents_of(section));
-    line.write(writer)
+    line.text(b"\n");
+    Ok(())
 }
 
 // Where the bytes of a section begin in the image, if it has any there.
@@ -151,19 +174,24 @@ fn contents_of(section: &Section) -> Option<u64>
 }
 
 // Writes the line of a library: the word of its command, its name, and two versions.
-pub(crate) fn write_library<W: Output>(library: &Dylib, writer: &mut W) -> Result<(), WriteFault>
-    ensures { PutsText W.Output writer.old writer.new result
-        (library_line library.now.cmd library.now.name.now library.now.current
+pub(crate) fn write_library<W: Output>(
+    library: &Dylib,
+    line: &mut Line,
+    writer: &mut W,
+) -> Result<(), WriteFault>
+    ensures { HoldsText W.Output writer.old writer.new result line.new
+        (line.old ++ library_line library.now.cmd library.now.name.now library.now.current
         library.now.compatible) }
 {
-    let mut line = Line::new();
-    line.text(library_start(library.cmd).as_bytes());
+    line.begin(writer)?;
+    line.bytes(library_start(library.cmd).as_bytes());
     line.name(library.name, writer)?;
     line.text(b" current ");
     line.version(library.current);
     line.text(b" compatible ");
     line.version(library.compatible);
-    line.write(writer)
+    line.text(b"\n");
+    Ok(())
 }
 
 // How the line of a library begins: the word of its command, with the blanks around it.
@@ -182,26 +210,39 @@ fn library_start(cmd: u32) -> &'static str
 }
 
 // Writes the line that counts the symbols.
-pub(crate) fn write_symbols<W: Output>(nsyms: u64, writer: &mut W) -> Result<(), WriteFault>
-    ensures { PutsText W.Output writer.old writer.new result (symbols_line nsyms) }
+pub(crate) fn write_symbols<W: Output>(
+    nsyms: u64,
+    line: &mut Line,
+    writer: &mut W,
+) -> Result<(), WriteFault>
+    ensures { HoldsText W.Output writer.old writer.new result line.new
+        (line.old ++ symbols_line nsyms) }
 {
-    let mut line = Line::new();
+    line.begin(writer)?;
     line.text(b"  symbols ");
     line.decimal(nsyms);
-    line.write(writer)
+    line.text(b"\n");
+    Ok(())
 }
 
 // Writes the line of the entry point: its address, or `none`.
-pub(crate) fn write_entry<W: Output>(entry: Option<u64>, writer: &mut W) -> Result<(), WriteFault>
-    ensures { PutsText W.Output writer.old writer.new result (entry_line entry) }
+pub(crate) fn write_entry<W: Output>(
+    entry: Option<u64>,
+    line: &mut Line,
+    writer: &mut W,
+) -> Result<(), WriteFault>
+    ensures { HoldsText W.Output writer.old writer.new result line.new
+        (line.old ++ entry_line entry) }
 {
+    line.begin(writer)?;
     let Some(address) = entry else {
-        return write_all(b"  entry none\n", writer);
+        line.text(b"  entry none\n");
+        return Ok(());
     };
-    let mut line = Line::new();
     line.text(b"  entry ");
     line.hex(address);
-    line.write(writer)
+    line.text(b"\n");
+    Ok(())
 }
 
 /// Writes the line of a code directory: the word of its hash type, and its cdhash, which is the first

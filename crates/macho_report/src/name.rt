@@ -10,6 +10,15 @@ use crate::number::byte_digits;
 use crate::stream::Output;
 use crate::transfer::WriteFault;
 
+// `1` for each byte that is plain, and `0` for every other one.
+static PLAIN_BYTES: [u8; 256] = *b"0000000000000000000000000000000011011111111111111111111111111111\
+      1111111111111111111111111111011111111111111111111111111111111110\
+      0000000000000000000000000000000000000000000000000000000000000000\
+      0000000000000000000000000000000000000000000000000000000000000000";
+
+// Fewer bytes than these are judged one by one.
+const MANY_BYTES: usize = 8;
+
 impl Line {
     // Puts a name in double quotes. A double quote, a backslash and every byte that is not printable
     // ASCII are put as `\x` and two lower-case digits in base 16.
@@ -20,7 +29,7 @@ impl Line {
     {
         if self.has_room(name.len() + 2) && are_plain(name) {
             self.text(b"\"");
-            self.text(name);
+            self.bytes(name);
             self.text(b"\"");
             return Ok(());
         }
@@ -50,11 +59,14 @@ impl Line {
     }
 }
 
-// Whether all bytes are plain. It looks at each, so that many can be judged at once.
+// Whether all bytes are plain. It looks at each of many, so that several can be judged at once.
 fn are_plain(bytes: &[u8]) -> bool
     ensures { IsTrue result
         ↔ ((k : ℕ) → k < length bytes.now → IsTrue (is_plain (slice_index bytes.now k))) }
 {
+    if bytes.len() < MANY_BYTES {
+        return count_plain(bytes) == bytes.len();
+    }
     let mut plain = true;
     for &byte in bytes {
         plain &= is_plain(byte);
@@ -69,7 +81,7 @@ fn count_plain(bytes: &[u8]) -> usize
     ensures end { result < length bytes.now → is_plain (slice_index bytes.now result) ≡ false }
 {
     for (index, &byte) in bytes.iter().enumerate() {
-        if !is_plain(byte) {
+        if !is_listed_plain(byte) {
             return index;
         }
     }
@@ -81,6 +93,13 @@ fn is_plain(byte: u8) -> bool
     ensures { result ≡ is_plain byte }
 {
     matches!(byte, b' '..=b'~') && byte != b'"' && byte != b'\\'
+}
+
+// The same, by the table.
+fn is_listed_plain(byte: u8) -> bool
+    ensures { result ≡ is_plain byte }
+{
+    PLAIN_BYTES[byte as usize] == b'1'
 }
 
 // A byte that is not plain as `\x` and two digits.

@@ -3,7 +3,7 @@
 ghost use Rattle.std.specs.Prelude.{◌≡◌, ◌+◌, ◌-◌, ◌*◌, ◌/◌, ◌%◌, ◌<◌, ◌≤◌, [], ◌∷◌, ◌++◌, false, codes, drop, length, map};
 ghost use Rattle.std.specs.Fmt.{decimal, digits, digit_glyph};
 ghost use Rattle.macho_report.specs.Stream.{joined};
-ghost use Rattle.macho_report.specs.Number.{byte_digits, prefixed_hex, version_text};
+ghost use Rattle.macho_report.specs.Number.{byte_digits, hex, prefixed_hex, version_text};
 
 use crate::line::{Line, PLACES};
 
@@ -19,6 +19,16 @@ static DECIMAL_PAIRS: [u8; 200] = *b"0001020304050607080910111213141516171819202
       25262728293031323334353637383940414243444546474849\
       50515253545556575859606162636465666768697071727374\
       75767778798081828384858687888990919293949596979899";
+
+/// The two digits of each byte, in base 16.
+static HEX_PAIRS: [u8; 512] = *b"000102030405060708090a0b0c0d0e0f101112131415161718191a1b1c1d1e1f\
+      202122232425262728292a2b2c2d2e2f303132333435363738393a3b3c3d3e3f\
+      404142434445464748494a4b4c4d4e4f505152535455565758595a5b5c5d5e5f\
+      606162636465666768696a6b6c6d6e6f707172737475767778797a7b7c7d7e7f\
+      808182838485868788898a8b8c8d8e8f909192939495969798999a9b9c9d9e9f\
+      a0a1a2a3a4a5a6a7a8a9aaabacadaeafb0b1b2b3b4b5b6b7b8b9babbbcbdbebf\
+      c0c1c2c3c4c5c6c7c8c9cacbcccdcecfd0d1d2d3d4d5d6d7d8d9dadbdcdddedf\
+      e0e1e2e3e4e5e6e7e8e9eaebecedeeeff0f1f2f3f4f5f6f7f8f9fafbfcfdfeff";
 
 // The digit of a value below 16.
 fn digit(value: u8, upper: bool) -> u8
@@ -42,6 +52,9 @@ fn digit_pair<const BASE: u64>(value: u64) -> [u8; 2]
     if BASE == 10 {
         return decimal_pair(value as usize);
     }
+    if BASE == 16 {
+        return hex_pair(value as usize);
+    }
     [
         digit((value / BASE) as u8, false),
         digit((value % BASE) as u8, false),
@@ -56,6 +69,14 @@ fn decimal_pair(value: usize) -> [u8; 2]
     [DECIMAL_PAIRS[2 * value], DECIMAL_PAIRS[2 * value + 1]]
 }
 
+// The two digits of a value below 256 in base 16.
+fn hex_pair(value: usize) -> [u8; 2]
+    requires { value < 256 }
+    ensures { result ≡ digit_glyph false (value / 16) ∷ digit_glyph false (value % 16) ∷ [] }
+{
+    [HEX_PAIRS[2 * value], HEX_PAIRS[2 * value + 1]]
+}
+
 // Puts the digits of a number in a base from 10 to 16 before the place `DIGITS` of the array, two at a
 // time from the last, and returns where they begin.
 fn put_digits<const BASE: u64>(number: u64, places: &mut [u8; 2 * DIGITS]) -> usize
@@ -68,7 +89,9 @@ fn put_digits<const BASE: u64>(number: u64, places: &mut [u8; 2 * DIGITS]) -> us
     let mut start = DIGITS;
     while rest >= BASE {
         start -= 2;
-        places[start..start + 2].copy_from_slice(&digit_pair::<BASE>(rest % (BASE * BASE)));
+        let [high, low] = digit_pair::<BASE>(rest % (BASE * BASE));
+        places[start + 1] = low;
+        places[start] = high;
         rest /= BASE * BASE;
     }
     if rest > 0 || start == DIGITS {
@@ -111,6 +134,16 @@ impl Line {
         ensures end { length self.new ≤ length self.old + 22 }
     {
         self.text(b"0x");
+        self.bare_hex(number);
+    }
+
+    // Puts a number in base 16 without its `0x`.
+    #[inline(always)]
+    pub(crate) fn bare_hex(&mut self, number: u64)
+        requires room { length self.old + 20 ≤ PLACES }
+        ensures text { self.new ≡ self.old ++ hex number }
+        ensures end { length self.new ≤ length self.old + 16 }
+    {
         self.number::<16>(number);
     }
 

@@ -1,27 +1,35 @@
 use Rattle.macho_fields.specs.FileTypes.{file_type_view}
+use Rattle.macho_report.proofs.Holding.{holds_begin, holds_fails, holds_fault, holds_last, holds_next, holds_none}
 use Rattle.macho_report.proofs.Slices.{same_arch, word_is}
-use Rattle.macho_report.proofs.Writers.{puts_fails, puts_last, puts_next}
 use Rattle.macho_report.proofs.layout.write_image_slice.Goals as goal
 
 pub returns-in_err-write_slice : goal.returns-in_err-write_slice
 returns-in_err-write_slice g c =
-    puts_fails _ c.from_residual.ensures.0 (rw (
+    holds_fails c.from_residual.ensures.0 holds_begin (rw (
       same_arch _ _ _ c.arch.ensures.cpu_type c.arch.ensures.cpu_subtype,
       word_is c.args.image.now (file_type_view c.file_type.result) c.file_type.ensures,
     ) at c.in_err-write_slice.ensures)
 
 pub returns-in_err-write_image : goal.returns-in_err-write_image
 returns-in_err-write_image g c =
-    puts_next _ (rw (
+    holds_fails c.from_residual-in_err-write_image.ensures.0 (holds_next holds_begin (rw (
       same_arch _ _ _ c.arch.ensures.cpu_type c.arch.ensures.cpu_subtype,
       word_is c.args.image.now (file_type_view c.file_type.result) c.file_type.ensures,
-    ) at c.in_ok-write_slice.ensures)
-    (puts_fails _ c.from_residual-in_err-write_image.ensures.0 c.in_err-write_image.ensures)
+    ) at c.in_ok-write_slice.ensures))
+    c.in_err-write_image.ensures
+
+pub returns-in_err-hand_on : goal.returns-in_err-hand_on
+returns-in_err-hand_on g c =
+    holds_last (holds_next (holds_next holds_begin (rw (
+      same_arch _ _ _ c.arch.ensures.cpu_type c.arch.ensures.cpu_subtype,
+      word_is c.args.image.now (file_type_view c.file_type.result) c.file_type.ensures,
+    ) at c.in_ok-write_slice.ensures))
+    c.in_ok-write_image.ensures) (holds_fault _ c.from_residual-in_err-hand_on.ensures.0 c.in_err-hand_on.ensures.text)
 
 pub returns : goal.returns
 returns g c =
-    puts_next _ (rw (
+    holds_last (holds_next (holds_next holds_begin (rw (
       same_arch _ _ _ c.arch.ensures.cpu_type c.arch.ensures.cpu_subtype,
       word_is c.args.image.now (file_type_view c.file_type.result) c.file_type.ensures,
-    ) at c.in_ok-write_slice.ensures)
-    (puts_next _ c.in_ok-write_image.ensures (puts_last c.write_more.ensures))
+    ) at c.in_ok-write_slice.ensures))
+    c.in_ok-write_image.ensures) (holds_none c.in_ok-hand_on.ensures.text c.in_ok-hand_on.ensures.none c.write_more.ensures)

@@ -18,7 +18,7 @@ returns-clause-text g c =
 
 -- There is room for each part. By hand, since a search reads all that is known at each goal.
 pub text-requires-2 : goal.text-requires-2
-text-requires-2 g c = record { room = fits _ _ 160 c.in_ok-word.ensures.room (lit≤ tt) }
+text-requires-2 g c = (lit≤ tt, fits _ _ 160 c.in_ok-word.ensures.room (lit≤ tt))
 
 pub hex-requires : goal.hex-requires
 hex-requires g c = record { room = fits _ 22 156 (room_after_text _ _ _ 160 156 c.in_ok-word.ensures.room c.text-2.ensures (lit≤ tt)) (lit≤ tt) }

@@ -1,38 +1,42 @@
 use Rattle.std.proofs.Common.{[], ◌∷◌, lit≤}
 use Rattle.std.specs.Prelude.{codes}
-use Rattle.macho_report.proofs.Puts.{from_start, put_next, put_many, put_last, ended}
-use Rattle.macho_report.proofs.Holding.{line_fails, line_written}
-use Rattle.macho_report.proofs.Room.{end_fits, extent_fits, fits, room_after_equal, room_after_extent, room_after_text}
+use Rattle.macho_report.proofs.LineTexts.{extent_put}
+use Rattle.macho_report.proofs.Puts.{put_next, put_many, put_last}
+use Rattle.macho_report.proofs.Holding.{line_kept, line_lost, holds_more_fails}
+use Rattle.macho_report.proofs.Room.{extent_fits, fits, room_after_equal, room_after_extent, room_after_text}
 use Rattle.macho_report.proofs.lines.write_segment.Goals as goal
+
+pub returns-in_err-begin : goal.returns-in_err-begin
+returns-in_err-begin g c = holds_more_fails _ c.from_residual.ensures.0 c.in_err-begin.ensures.text
 
 pub returns-in_err-name : goal.returns-in_err-name
 returns-in_err-name g c =
-    line_fails (codes "  segment " ∷ []) _ _ c.from_residual.ensures.0 (from_start _ _ _ c.new-line.ensures (put_next _ _ _ _ _ c.text.ensures (put_last _))) (rw c.name.ensures at c.in_err-name.ensures.text)
+    line_lost (codes "  segment " ∷ []) _ _ c.from_residual-in_err-name.ensures.0 c.in_ok-begin.ensures.text (put_next _ _ _ _ _ c.text.ensures (put_last _)) (rw c.name.ensures at c.in_err-name.ensures.text)
 
 pub returns : goal.returns
 returns g c =
-    line_written (codes "  segment " ∷ []) _ _ (from_start _ _ _ c.new-line.ensures (put_next _ _ _ _ _ c.text.ensures (put_last _))) (rw c.name.ensures at c.in_ok-name.ensures.text)
-    (put_many _ _ _ _ _ (rw (c.vmaddr.ensures, c.vmsize.ensures) at c.extent.ensures.text)
-    (put_many _ _ _ _ _ (rw (c.fileoff.ensures, c.filesize.ensures) at c.extent-2.ensures.text)
-    (put_next _ _ _ _ _ c.text-2.ensures (put_next _ _ _ _ _ (rw c.initprot.ensures.number at c.protection.ensures.text) (ended _))))) c.write.ensures.text
+    line_kept (codes "  segment " ∷ []) _ _ c.in_ok-begin.ensures.text (put_next _ _ _ _ _ c.text.ensures (put_last _)) (rw c.name.ensures at c.in_ok-name.ensures.text)
+    (put_many _ _ _ _ _ (extent_put (codes " addr ") _ _ _ (rw (c.vmaddr.ensures, c.vmsize.ensures) at c.extent.ensures.text))
+    (put_many _ _ _ _ _ (extent_put (codes " file ") _ _ _ (rw (c.fileoff.ensures, c.filesize.ensures) at c.extent-2.ensures.text))
+    (put_next _ _ _ _ _ c.text-2.ensures (put_next _ _ _ _ _ (rw c.initprot.ensures.number at c.protection.ensures.text) (put_next _ _ _ _ _ c.text-3.ensures (put_last _))))))
 
 -- There is room for each part. By hand, since a search reads all that is known at each goal.
 pub extent-requires : goal.extent-requires
-extent-requires g c = record { room = extent_fits _ _ 160 c.in_ok-name.ensures.room (lit≤ tt) }
+extent-requires g c = (lit≤ tt, extent_fits _ _ 160 c.in_ok-name.ensures.room (lit≤ tt))
 
 pub extent-requires-2 : goal.extent-requires-2
-extent-requires-2 g c = record { room = extent_fits _ _ 104 (room_after_extent _ _ _ 160 104 c.in_ok-name.ensures.room c.extent.ensures.end (lit≤ tt)) (lit≤ tt) }
+extent-requires-2 g c = (lit≤ tt, extent_fits _ _ 104 (room_after_extent _ _ _ 160 104 c.in_ok-name.ensures.room c.extent.ensures.end (lit≤ tt)) (lit≤ tt))
 
 pub text-requires-2 : goal.text-requires-2
 text-requires-2 g c =
-    record { room = fits _ _ 48 (room_after_extent _ _ _ 104 48 (room_after_extent _ _ _ 160 104 c.in_ok-name.ensures.room c.extent.ensures.end (lit≤ tt)) c.extent-2.ensures.end (lit≤ tt)) (lit≤ tt) }
+    (lit≤ tt, fits _ _ 48 (room_after_extent _ _ _ 104 48 (room_after_extent _ _ _ 160 104 c.in_ok-name.ensures.room c.extent.ensures.end (lit≤ tt)) c.extent-2.ensures.end (lit≤ tt)) (lit≤ tt))
 
 pub protection-requires : goal.protection-requires
 protection-requires g c =
     let parts = room_after_extent _ _ _ 104 48 (room_after_extent _ _ _ 160 104 c.in_ok-name.ensures.room c.extent.ensures.end (lit≤ tt)) c.extent-2.ensures.end (lit≤ tt) in
     record { room = fits _ 3 47 (room_after_text _ _ _ 48 47 parts c.text-2.ensures (lit≤ tt)) (lit≤ tt) }
 
-pub write-requires : goal.write-requires
-write-requires g c =
+pub text-requires-3 : goal.text-requires-3
+text-requires-3 g c =
     let parts = room_after_extent _ _ _ 104 48 (room_after_extent _ _ _ 160 104 c.in_ok-name.ensures.room c.extent.ensures.end (lit≤ tt)) c.extent-2.ensures.end (lit≤ tt) in
-    record { room = end_fits _ 44 (room_after_equal _ 3 _ 47 44 (room_after_text _ _ _ 48 47 parts c.text-2.ensures (lit≤ tt)) c.protection.ensures.end (lit≤ tt)) (lit≤ tt) }
+    (lit≤ tt, fits _ _ 44 (room_after_equal _ 3 _ 47 44 (room_after_text _ _ _ 48 47 parts c.text-2.ensures (lit≤ tt)) c.protection.ensures.end (lit≤ tt)) (lit≤ tt))

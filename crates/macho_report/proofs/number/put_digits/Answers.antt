@@ -1,7 +1,6 @@
-use Rattle.std.proofs.Common.{rules, ◌≡◌, ◌<◌, ◌≤◌, ◌+◌, ◌-◌, arith, length, inl, inr, sym, ◌∙◌}
+use Rattle.std.proofs.Common.{rules, ◌≡◌, ◌<◌, ◌≤◌, ◌-◌, arith, length, inl, inr, sym}
 use Rattle.std.proofs.lemmas.Grind.{common_steps}
 use Rattle.std.specs.Prelude.{◌⊎◌, slice_set}
-use borrow.Rule.Slice.PartMut.{same_len_mid}
 use Rattle.macho_report.proofs.Digits.{digits_begin, fits_array, two_left, place_left, two_put, two_set, one_put, one_set, long}
 use Rattle.macho_report.proofs.number.put_digits.Goals as goal
 
@@ -23,12 +22,11 @@ loop-rest-preserved g c =
     let left = two_left _ _ _ c.requires.low c.loop-rest-test.true c.loop-rest.invariant.fits in
     let two : 2 ≤ c.loop-rest.start = left.0 in
     let in_array : c.loop-rest.start ≤ length c.loop-rest.places = omega arith in
-    let size : c.loop-rest.start - 2 + 2 - (c.loop-rest.start - 2) ≡ 2 = omega arith in
     record {
-      all_places = same_len_mid _ _ _ _ c.copy_from_slice.ensures.len ∙ c.loop-rest.invariant.all_places;
+      all_places = grind (arith, common_steps);
       in_array = omega arith;
       fits = left.2;
-      left = rw (two_set _ _ _ _ size two in_array, c.copy_from_slice.ensures.after, c.digit_pair.ensures)
+      left = rw (two_set _ _ _ _ two in_array, c.digit_pair.ensures)
           (two_put _ _ _ _ _ base_is some left.1 two c.loop-rest.invariant.in_array c.loop-rest.invariant.left);
     }
 

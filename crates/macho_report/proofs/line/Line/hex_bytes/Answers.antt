@@ -5,7 +5,7 @@ use Rattle.macho_report.proofs.Puts.{put_item, put_items_end}
 use Rattle.macho_report.proofs.line.Line.hex_bytes.Goals as goal
 
 pub text-requires : goal.text-requires
-text-requires c = record { room = omega (arith, ap length c.byte_digits.ensures) }
+text-requires c = (omega arith, omega (arith, ap length c.byte_digits.ensures))
 
 pub loop-byte-preserved : goal.loop-byte-preserved
 loop-byte-preserved c = record {

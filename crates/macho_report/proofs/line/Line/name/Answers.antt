@@ -8,7 +8,7 @@ use Rattle.macho_report.proofs.line.Line.name.Goals as goal
 
 pub returns-then-are_plain-clause-text : goal.returns-then-are_plain-clause-text
 returns-then-are_plain-clause-text g c =
-    holds_all (plain_quoted _ _ _ _ _ (c.are_plain.ensures.0 (search rules)) c.text.ensures c.text-then-are_plain.ensures c.text-then-are_plain-2.ensures)
+    holds_all (plain_quoted _ _ _ _ _ (c.are_plain.ensures.0 (search rules)) c.text.ensures c.bytes.ensures c.text-then-are_plain.ensures)
 
 pub returns-in_err-word-clause-text : goal.returns-in_err-word-clause-text
 returns-in_err-word-clause-text g c =
