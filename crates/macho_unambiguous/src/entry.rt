@@ -102,7 +102,7 @@ fn is_program(image: &Image) -> bool
     image.kind() == Kind::Execute
 }
 
-// Whether the command is an `LC_MAIN` whose offset is not that of the entry in the file.
+// Whether the command is an `LC_MAIN`, and the byte at its offset in the file is not the entry.
 fn begins_elsewhere(image: &Image, command: &Command) -> bool
     requires { IsCommandOf image.now (command_of command.now) }
     ensures { IsTrue result ↔ BeginsElsewhere image.now command.now.place }
@@ -110,7 +110,7 @@ fn begins_elsewhere(image: &Image, command: &Command) -> bool
     command.cmd == LC_MAIN && !begins_at_offset(image, command.place)
 }
 
-// Whether the offset of the `entry_point_command` is that of the entry in the file.
+// Whether the byte at the offset of the `entry_point_command` in the file is the entry.
 fn begins_at_offset(image: &Image, main: u64) -> bool
     requires { main + structure_size EntryPointCommand ≤ length image.now }
     ensures { IsTrue result ↔ BeginsAtOffset image.now main }

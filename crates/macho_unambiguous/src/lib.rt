@@ -1,5 +1,5 @@
 #![tactic(auto)]
-//! The unambiguous profile: rules under which all readers of a file see one program.
+//! Rules under which all readers of a file see one program, and the laws that they do. No verdict judges them yet.
 //!
 //! A `place` is an offset in bytes from the start of the image, or of the file in the rules of a universal file.
 
