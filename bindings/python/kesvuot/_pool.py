@@ -145,7 +145,7 @@ class _Pool:
         again.extend(worker.tasks)
 
     def _retry(self, task: Task) -> None:
-        """Does a task item by item, in a process of which one item may be the end."""
+        """Does a task item by item, in a process that an item may end."""
         worker: Optional[Worker] = None
         task.results = []
         for item in task.items:

@@ -1,7 +1,5 @@
 -- What a rule of linked data is about is there, where the rule is broken.
-use Rattle.std.proofs.Common.{◌≡◌, ◌∙◌, ℕ, ◌+◌, ◌<◌, List, length, Option, Some, None, inl, inr, ap, refl, sym, arith}
-use Rattle.std.specs.Prelude.{IsSomeAnd}
-use Rattle.std.specs.Option.{option_map}
+use Rattle.std.proofs.Common.{◌≡◌, ℕ, ◌<◌, List, length, Some, None, inl, inr, ap, refl, sym, arith}
 use Rattle.macho_fields.proofs.Options.{of_some, some_of}
 use Rattle.macho_fields.specs.Field.{part}
 use Rattle.macho_fields.specs.Image.{commands_of}
@@ -15,9 +13,8 @@ use Rattle.macho_fields.specs.declared.load_command.Structure.TheVariants.{Linke
 use Rattle.macho_image.specs.Command.{first_with_cmd}
 use Rattle.macho_image.proofs.ReadParts.{length-part}
 use Rattle.macho_sealed.specs.Signature.{BreaksSignatureSlack}
-use Rattle.macho_spans.specs.declared.span.Span.{Span}
-use Rattle.macho_tables.specs.DataInCode.{BadEntry, BreaksDataInCode, entry_place}
-use Rattle.macho_tables.specs.DataTables.{InDataTable, InTableBytes, IsDataTable}
+use Rattle.macho_tables.specs.DataInCode.{BadEntry, BreaksDataInCode}
+use Rattle.macho_tables.specs.DataTables.{InDataTable, InTableBytes}
 use Rattle.macho_tables.specs.Homes.{bytes_of_table}
 use Rattle.macho_tables.specs.StartNumbers.{BadNumber, BreaksFunctionNumber, BreaksFunctionStart, IsStartAt, IsStrayStart, StrayStart}
 use Rattle.macho_tables.proofs.DataInCode.{entry_inside}
@@ -44,7 +41,7 @@ module _ (image : List ℕ) (keeps : NothingBreaks (BreaksImage image None)) whe
   opens : Opens image
   opens (r, place, before, broken) = keeps r place broken
 
-  in_table : (cmd : ℕ) → structure_of cmd ≡ Some LinkeditDataCommand → (Rule : List ℕ → List ℕ → ℕ → Type 0) (P : List ℕ → ℕ → Type 0)
+  pub in_table : (cmd : ℕ) → structure_of cmd ≡ Some LinkeditDataCommand → (Rule : List ℕ → List ℕ → ℕ → Type 0) (P : List ℕ → ℕ → Type 0)
       → ((table : List ℕ) (offset : ℕ) → 0 < length table → Rule image table offset → P table offset)
       → (place : ℕ) → InDataTable image cmd Rule place → InTable image cmd (λ start. P) place
   in_table cmd is_data Rule P has place broken =

@@ -1,5 +1,5 @@
 -- What an explanation shows of the rules of code signatures.
-use Rattle.std.proofs.Common.{◌≡◌, ◌∙◌, ℕ, List, Option, None, Some, IfSome, inl, inr, sym, ap, subst}
+use Rattle.std.proofs.Common.{◌≡◌, ◌∙◌, ℕ, List, Option, None, Some, IfSome, inr, sym, ap, subst}
 use Rattle.std.specs.Prelude.{IsSomeAnd}
 use Rattle.macho_fields.specs.Field.{part}
 use Rattle.macho_signature.specs.CodeDirectories.{code_directory}

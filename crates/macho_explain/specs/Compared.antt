@@ -1,22 +1,23 @@
 -- What an explanation has of each rule: the numbers that the rule compares, and of overlaps what both parts
 -- share. (docs/reference/explain.md)
-use Rattle.std.specs.Prelude.{◌≡◌, ℕ, ◌+◌, ◌-◌, ◌*◌, ◌/◌, ◌%◌, ◌^◌, ◌≢◌, ◌≤◌, ◌<◌, ◌⊎◌, min, take, List, length, Option, Some, MatchOption, IsSomeAnd, slice_get, true}
+use Rattle.std.specs.Prelude.{◌≡◌, ℕ, ◌+◌, ◌-◌, ◌*◌, ◌/◌, ◌%◌, ◌^◌, ◌≢◌, ◌≤◌, ◌<◌, ◌⊎◌, min, take, List, [], Any, length, Option, Some, MatchOption, IsSomeAnd, slice_get, true}
 use Rattle.std.specs.Option.{option_map, option_map_or}
 use Rattle.macho_fields.specs.Image.{command_cmd, command_size, commands_of}
+use Rattle.macho_fields.specs.LoadCommands.{structure_of, table_fields}
+use Rattle.macho_fields.specs.declared.load_command.TableFields.{TableFields}
 use Rattle.macho_fields.specs.Segment.{all_segments, base_of, vmaddr, vmsize, fileoff, filesize, section_address, section_size, section_offset, reloff, nreloc, section_count}
 use Rattle.macho_fields.specs.Symbol.{n_strx, n_sect}
-use Rattle.macho_fields.specs.Universal.{FileSlice, slices_of, IsUniversal}
+use Rattle.macho_fields.specs.Universal.{FileSlice, slices_of, IsUniversal, OverlapsEarlierSlice, RepeatsEarlierArch}
 use Rattle.macho_fields.specs.declared.header.loader.TheConstants as loader
 use Rattle.macho_fields.specs.declared.rule.Rule.{Rule}
 use Rattle.macho_fields.specs.declared.rule.Rule.TheVariants as rule
-use Rattle.macho_chains.specs.ChainHeader.{chain_header}
 use Rattle.macho_chains.specs.ChainPointers.{pointer_of}
-use Rattle.macho_chains.specs.declared.chain_header.ChainHeader.{ChainHeader}
 use Rattle.macho_tables.specs.DataInCode.{entry_at, entry_place}
 use Rattle.macho_exports.specs.ExportTrie.{Node, node_at, export_in}
 use Rattle.macho_exports.specs.Exports.{export_table}
+use Rattle.macho_tables.specs.Homes.{bytes_of_segment}
 use Rattle.macho_tables.specs.Kinds.{share_kind}
-use Rattle.macho_tables.specs.Limits.{budget_of, library_count}
+use Rattle.macho_tables.specs.Limits.{library_count}
 use Rattle.macho_tables.specs.Numbers.{unsigned_at}
 use Rattle.macho_tables.specs.StartNumbers.{IsStartAt}
 use Rattle.macho_chains.specs.declared.chain_starts.PointerFormat.{PointerFormat}
@@ -24,21 +25,31 @@ use Rattle.macho_tables.specs.declared.data_in_code.DataInCodeEntry.{DataInCodeE
 use Rattle.macho_exports.specs.declared.export_trie.Target.{Target}
 use Rattle.macho_exports.specs.declared.export_trie.Target.TheVariants as target
 use Rattle.macho_fields.specs.declared.header.fixup_chains.TheConstants as chained
-use Rattle.macho_spans.specs.Span.{end_of}
+use Rattle.macho_spans.specs.Span.{end_of, Shares}
 use Rattle.macho_spans.specs.declared.span.Span.{Span}
-use Rattle.macho_symbols.specs.Indirects.{indirect_count}
+use Rattle.macho_symbols.specs.Indirects.{indirect_count, stride, IsUneven}
+use Rattle.macho_image.specs.Segment.{reserved1}
 use Rattle.macho_symbols.specs.Nlist.{library_ordinal}
 use Rattle.macho_symbols.specs.Reloc.{relocation_at}
 use Rattle.macho_symbols.specs.declared.reloc.Relocation.{Relocation}
 use Rattle.macho_fields.specs.declared.header.reloc.TheConstants as reloc
 use Rattle.macho_image.specs.Command.{first_with_cmd}
 use Rattle.macho_image.specs.Symbol.{dysymtab_at, symbol_at}
-use Rattle.macho_explain.specs.Explain.{all_loads, all_segment_loads, IsCommandAt, IsUncounted, long_at, word_at}
+use Rattle.macho_explain.specs.Commanded.{HasEarlier, HasSection, HasWalkEnd, IsGroupPast, field_shown, group_shown, obsolete_counts}
+use Rattle.macho_explain.specs.Entries.{HasEntry, HasEntryWith, HasForeign}
+use Rattle.macho_explain.specs.Explain.{all_loads, all_segment_loads, memory_of, IsCommandAt, IsUncounted, long_at, word_at}
 use Rattle.macho_explain.specs.Parts.{IsBefore, Share}
 use Rattle.macho_explain.specs.Seals.{IsRepeatShown, ShowsHash}
 use Rattle.macho_explain.specs.Signatures.{IsBlobShown, IsLimitShown, IsSuperblobShown, IsUnsoundShown, ShowsSignature}
 use Rattle.macho_signature.specs.Signature.{bytes_at}
-use Rattle.macho_explain.specs.Wholes.{named_table, Opens, InWhole, InTable, IsWhole}
+use Rattle.macho_explain.specs.Blobs.{InSignature, IsBlobAt, IsDirectoryPlace, IsLimitAt, IsRepeatAt}
+use Rattle.macho_explain.specs.Fixups.{InFixups, IsImportAt, IsImportsAt, IsShortAt, IsStartsAt}
+use Rattle.macho_explain.specs.SectionItems.{HasInitOffset, HasRelocation}
+use Rattle.macho_explain.specs.Streams.{HasBind, HasBindOpcode, HasRebase, HasRebaseOpcode, OfBinds, ShowsStep}
+use Rattle.macho_explain.specs.declared.stream.Asked.TheVariants as asked
+use Rattle.macho_opcodes.specs.declared.streams.Stream.TheVariants as streams
+use Rattle.macho_explain.specs.Symbols.{HasSymbol}
+use Rattle.macho_explain.specs.Wholes.{named_table, Opens, InWhole, InTable}
 use Rattle.macho_rows.specs.Segments.{last_address}
 use Rattle.macho_explain.specs.declared.conflict.Conflict.{Conflict}
 
@@ -71,11 +82,6 @@ SharesOrPasses image conflict = Share conflict ⊎ (conflict.limit ≡ length im
 abbrev pub IsChainSize : List ℕ → ℕ → Type 0
 IsChainSize image size = IsSomeAnd (named_table image loader.LC_DYLD_CHAINED_FIXUPS) (λ table. size ≡ table.len)
 
--- they are the table, and its header is known
-abbrev pub AreChains : List ℕ → Span → List ℕ → ChainHeader → Type 0
-AreChains image table bytes header =
-    IsWhole image (named_table image loader.LC_DYLD_CHAINED_FIXUPS) table bytes × (chain_header bytes ≡ Some header)
-
 -- the 64 bits at the place are a pointer that binds the import with this ordinal
 abbrev pub Binds : List ℕ → ℕ → ℕ → Type 0
 Binds image place ordinal =
@@ -99,11 +105,13 @@ IsRestShown image c =
     IsSomeAnd (named_table image loader.LC_DATA_IN_CODE) (λ table. c.value ≡ table.len)
     × (c.limit ≡ loader.DATA_IN_CODE_ENTRY_SIZE) × (c.value % c.limit ≢ 0)
 
--- the size of an offset of an initializer, which is cut; or the address to which it leads
+-- the size of an offset of an initializer, which is cut; or the address to which it leads, and the offset itself where
+-- no segment has the base
 abbrev pub IsInitializerShown : List ℕ → ℕ → Conflict → Type 0
 IsInitializerShown image place c =
     (c.limit ≡ loader.INIT_OFFSET_SIZE)
-    ⊎ IsSomeAnd (base_of image (commands_of image)) (λ base. c.value ≡ written (base + word_at image place))
+    ⊎ MatchOption (base_of image (commands_of image)) ((c.value ≡ word_at image place) × (c.limit ≡ 0))
+    (λ base. c.value ≡ written (base + word_at image place))
 
 -- the kind of an entry of data in code, and the last one that has a meaning; or where its bytes end
 abbrev pub IsEntryShown : DataInCodeEntry → Conflict → Type 0
@@ -151,6 +159,12 @@ LeadsTo image value (target.Reexport ordinal name) = ⊥
 abbrev pub HasNode : List ℕ → ℕ → (Span → ℕ → Type 0) → Type 0
 HasNode trie offset P = IsSomeAnd (node_at trie offset) (λ node. P node.terminal node.end)
 
+-- What only proofs need: how many items a field of the command at a place says, if it says some
+abbrev pub IsObsoleteFound : List ℕ → ℕ → ℕ → ℕ → Option (ℕ × ℕ) → Type 0
+IsObsoleteFound image place index field found =
+    let count = word_at image (written (place + field)) in
+    MatchOption found (count ≡ 0) (λ one. (one.0 ≡ index) × (0 < one.1) × (one.1 ≡ count))
+
 -- What only proofs need: where the terminal part of a node is, and where the node ends.
 abbrev pub node_bounds : Node → Span × ℕ
 node_bounds node = (node.terminal, node.end)
@@ -187,26 +201,51 @@ IsByteShown image place c = (slice_get image place ≡ Some c.value) × (c.limit
 abbrev pub IsArchOf : ℕ → ℕ → Type 0
 IsArchOf cputype number = number / 2 ^ 32 ≡ cputype
 
--- where the file bytes of a segment end, or how many there are
+-- where the file bytes of a segment end
 abbrev pub IsFileEnd : List ℕ → ℕ → Type 0
 IsFileEnd image end = (segment : ℕ) × (end ≡ written (fileoff image segment + filesize image segment))
-
-abbrev pub IsFileSize : List ℕ → ℕ → Type 0
-IsFileSize image size = (segment : ℕ) × (size ≡ filesize image segment)
 
 -- no segment can be the home, or where one ends that is none, or both parts share bytes
 abbrev pub IsHomelessShown : List ℕ → Conflict → Type 0
 IsHomelessShown image c = (c.limit ≡ 0) ⊎ IsFileEnd image c.limit ⊎ Share c
 
--- the size of the section, which its stubs or pointers do not fill; or how many indirect entries the image has
+-- the size of the section, which its stubs or pointers do not fill, and the size of one; or where their indirect
+-- entries end, and how many the image has
 abbrev pub IsIndirectShown : List ℕ → ℕ → Conflict → Type 0
 IsIndirectShown image section c =
-    (c.value ≡ section_size image section) ⊎ (c.limit ≡ indirect_count image)
+    (IsUneven image section × (c.value ≡ section_size image section) × (c.limit ≡ stride image section))
+    ⊎ ((c.value ≡ written (reserved1 image section + section_size image section / stride image section))
+    × (c.limit ≡ indirect_count image))
 
--- a field of the command says that there are so many items, and there are some
+-- dysymtab_command: a table that only older loaders follow has so many items, and some
 abbrev pub IsCountShown : List ℕ → ℕ → ℕ → Type 0
 IsCountShown image place count =
-    (0 < count) × ((field : ℕ) × (count ≡ word_at image (written (place + field))))
+    (0 < count) × Any (λ field. count ≡ word_at image (written (place + field))) obsolete_counts
+
+-- a group of symbols of the command at the place ends past so many, in numbers
+abbrev pub IsGroupShown : List ℕ → ℕ → Conflict → Type 0
+IsGroupShown image place c =
+    (c.limit < c.value)
+    × ((k : ℕ) × (k < 3) × (c.value ≡ (group_shown image place k).0 + (group_shown image place k).1))
+
+-- a table that a command at a place bounds by these fields: where it begins, how many bytes it has, and that it has
+-- some, and ends past the image
+abbrev pub start_shown : List ℕ → ℕ → TableFields → ℕ
+start_shown image place fields = field_shown image fields.width (written (place + fields.place))
+
+abbrev pub size_shown : List ℕ → ℕ → TableFields → ℕ
+size_shown image place fields =
+    field_shown image fields.width (written (place + fields.count)) * fields.item_size
+
+abbrev pub IsTablePast : List ℕ → ℕ → TableFields → Type 0
+IsTablePast image place fields =
+    (0 < size_shown image place fields)
+    × (length image < start_shown image place fields + size_shown image place fields)
+
+-- such a table of a command with this cmd
+abbrev pub HasTablePast : List ℕ → ℕ → ℕ → Type 0
+HasTablePast image place cmd =
+    Any (IsTablePast image place) (option_map_or table_fields (structure_of cmd) [])
 
 -- What a rule is about: of the rules for which it is promised that this is explained
 
@@ -285,62 +324,62 @@ OfSlice file index P =
 abbrev pub shown : Rule → Shown
 shown rule.Magic = OfFile HasStart (λ file place index c. (place ≡ 0) × (c.limit ≡ loader.MH_MAGIC_64))
 shown rule.FatTruncated = OfFile HasCount (λ file place index c. (place ≡ 4) × (c.limit ≡ length file))
-shown rule.FatSliceOutside = OfFile Unpromised (λ file place index c. OfSlice file index (λ slice. (c.value ≡ written (slice.start + slice.size)) × (c.limit ≡ length file)))
-shown rule.FatSliceInTable = OfFile Unpromised (λ file place index c. OfSlice file index (λ slice. c.value ≡ slice.start))
-shown rule.FatAlign = OfFile Unpromised (λ file place index c. OfSlice file index (λ slice. c.value ≡ slice.start))
-shown rule.FatOverlap = OfFile Unpromised (λ file place index c. Share c × IsBefore c)
-shown rule.FatDuplicate = OfFile Unpromised (λ file place index c. (c.value ≡ c.limit) × IsBefore c)
-shown rule.FatSliceMagic = OfFile Unpromised (λ file place index c. OfSlice file index (λ slice. slice.start ≡ place) × (c.limit ≡ loader.MH_MAGIC_64))
+shown rule.FatSliceOutside = OfFile HasEntry (λ file place index c. OfSlice file index (λ slice. (c.value ≡ written (slice.start + slice.size)) × (c.limit ≡ length file)))
+shown rule.FatSliceInTable = OfFile HasEntry (λ file place index c. OfSlice file index (λ slice. c.value ≡ slice.start))
+shown rule.FatAlign = OfFile HasEntry (λ file place index c. OfSlice file index (λ slice. c.value ≡ slice.start))
+shown rule.FatOverlap = OfFile (HasEntryWith OverlapsEarlierSlice) (λ file place index c. Share c × IsBefore c)
+shown rule.FatDuplicate = OfFile (HasEntryWith RepeatsEarlierArch) (λ file place index c. (c.value ≡ c.limit) × IsBefore c)
+shown rule.FatSliceMagic = OfFile HasForeign (λ file place index c. OfSlice file index (λ slice. slice.start ≡ place) × (c.limit ≡ loader.MH_MAGIC_64))
 shown rule.FatEmpty = OfFile HasCount (λ file place index c. (place ≡ 4) × (c.value ≡ 0) × (c.limit ≡ 1))
 shown rule.HeaderTruncated = OfImage HasHeader (λ image place c. (c.value ≡ 32) × (c.limit ≡ length image))
 shown rule.ArchMismatch = OfImage HasHeader (λ image place c. IsArchOf (word_at image 4) c.value)
 shown rule.FileType = OfImage HasHeader (λ image place c. (c.value ≡ word_at image 12) × (c.limit ≡ 0))
 shown rule.CommandsOutside = OfImage HasHeader (λ image place c. (c.value ≡ 32 + word_at image 20) × (c.limit ≡ length image))
-shown rule.CommandWalk = OfImage Unpromised (λ image place c. IsWalkShown image place c.value c.limit)
+shown rule.CommandWalk = OfImage HasWalkEnd (λ image place c. IsWalkShown image place c.value c.limit)
 shown rule.CommandShort = OfImage HasCommand (λ image place c. c.value ≡ command_size image place)
-shown rule.CommandRepeated = OfImage Unpromised (λ image place c. (c.value ≡ command_cmd image place) × (c.limit ≡ command_cmd image place) × IsBefore c)
+shown rule.CommandRepeated = OfImage (λ image place. HasCommand image place × HasEarlier (all_loads image) (λ earlier. command_cmd image earlier ≡ command_cmd image place) place) (λ image place c. (c.value ≡ command_cmd image place) × (c.limit ≡ command_cmd image place) × IsBefore c)
 shown rule.DylibId = OfImage HasHeader (λ image place c. MatchOption c.second (c.value ≡ 0) (λ command. c.value ≡ 1))
 shown rule.Name = OfImage HasCommand (λ image place c. c.value ≡ word_at image (place + 8))
 shown rule.SegmentAddress = OfImage HasSegment (λ image place c. (c.value ≡ vmsize image place) × (c.limit ≡ written (2 ^ 64 - vmaddr image place)))
 shown rule.SegmentSize = OfImage HasSegment (λ image place c. (c.value ≡ filesize image place) × (c.limit ≡ vmsize image place))
 shown rule.SegmentFile = OfImage HasSegment (λ image place c. (c.value ≡ written (fileoff image place + filesize image place)) × (c.limit ≡ length image))
-shown rule.SegmentOverlap = OfImage Unpromised (λ image place c. Share c)
-shown rule.SectionAddress = OfImage Unpromised (λ image place c. (segment : ℕ) × ShowsOutsideMemory image segment place c.value c.limit)
-shown rule.SectionFile = OfImage Unpromised (λ image place c. (segment : ℕ) × ShowsMisplaced image segment place c.value c.limit)
-shown rule.SectionRelocs = OfImage Unpromised (λ image place c. (c.value ≡ reloff image place + 8 * nreloc image place) × (c.limit ≡ length image))
-shown rule.TableRange = OfImage Unpromised (λ image place c. (c.limit ≡ length image) × (c.limit ≤ c.value))
-shown rule.SymbolGroup = OfImage Unpromised (λ image place c. c.limit < c.value)
-shown rule.SymbolName = OfImage Unpromised (λ image place c. c.value ≡ n_strx image place)
-shown rule.SymbolSection = OfImage Unpromised (λ image place c. (c.value ≡ n_sect image place) × (c.limit ≡ section_count image (commands_of image)))
+shown rule.SegmentOverlap = OfImage (λ image place. HasSegment image place × HasEarlier (all_segment_loads image) (λ earlier. Shares (memory_of image earlier) (memory_of image place)) place) (λ image place c. Share c)
+shown rule.SectionAddress = OfImage HasSection (λ image place c. (segment : ℕ) × ShowsOutsideMemory image segment place c.value c.limit)
+shown rule.SectionFile = OfImage HasSection (λ image place c. (segment : ℕ) × ShowsMisplaced image segment place c.value c.limit)
+shown rule.SectionRelocs = OfImage HasSection (λ image place c. (c.value ≡ reloff image place + 8 * nreloc image place) × (c.limit ≡ length image))
+shown rule.TableRange = OfImage (λ image place. HasCommand image place × HasTablePast image place (command_cmd image place)) (λ image place c. (c.limit ≡ length image) × (c.limit ≤ c.value))
+shown rule.SymbolGroup = OfImage (λ image place. HasCommand image place × ((k : ℕ) × IsGroupPast image place k)) IsGroupShown
+shown rule.SymbolName = OfImage HasSymbol (λ image place c. c.value ≡ n_strx image place)
+shown rule.SymbolSection = OfImage HasSymbol (λ image place c. (c.value ≡ n_sect image place) × (c.limit ≡ section_count image (commands_of image)))
 shown rule.IndirectIndex = OfImage HasIndirect (λ image place c. c.value ≡ word_at image place)
 shown rule.Entry = OfImage HasCommand (λ image place c. IsEntryPointShown image place c)
 shown rule.FatStrayByte = OfFile HasByte (λ file place index c. IsByteShown file place c)
-shown rule.CommandsEnd = OfImage Unpromised (λ image place c. c.limit ≡ 32 + word_at image 20)
+shown rule.CommandsEnd = OfImage (λ image place. HasHeader image place × ¬ IsUncounted image) (λ image place c. c.limit ≡ 32 + word_at image 20)
 shown rule.HeaderSegment = OfImage HasHeader (λ image place c. c.value ≡ 32 + word_at image 20)
-shown rule.SegmentFileOverlap = OfImage Unpromised (λ image place c. Share c)
+shown rule.SegmentFileOverlap = OfImage (λ image place. HasSegment image place × HasEarlier (all_segment_loads image) (λ earlier. Shares (bytes_of_segment image earlier) (bytes_of_segment image place)) place) (λ image place c. Share c)
 shown rule.ElementOverlap = OfImage Unpromised (λ image place c. SharesOrPasses image c)
 shown rule.StrayByte = OfImage HasByte (λ image place c. IsByteShown image place c)
-shown rule.EncryptedRange = OfImage Unpromised (λ image place c. (c.limit ≡ 32 + word_at image 20) ⊎ (c.limit ≡ 0) ⊎ IsFileEnd image c.limit)
+shown rule.EncryptedRange = OfImage (λ image place. HasCommand image place × (command_cmd image place ≡ loader.LC_ENCRYPTION_INFO_64)) (λ image place c. (c.limit ≡ 32 + word_at image 20) ⊎ (c.limit ≡ 0) ⊎ IsFileEnd image c.limit)
 shown rule.CommandSlack = OfImage HasCommandByte (λ image place c. IsByteShown image place c)
 shown rule.UnclaimedByte = OfImage HasByte (λ image place c. IsByteShown image place c)
-shown rule.TableRepeated = OfImage Unpromised (λ image place c. (c.value ≡ command_cmd image place) × (share_kind c.limit c.value ≡ true) × IsBefore c)
+shown rule.TableRepeated = OfImage (λ image place. HasCommand image place × HasEarlier (all_loads image) (λ earlier. share_kind (command_cmd image earlier) (command_cmd image place) ≡ true) place) (λ image place c. (c.value ≡ command_cmd image place) × (share_kind c.limit c.value ≡ true) × IsBefore c)
 shown rule.FunctionVariants = OfImage HasCommand (λ image place c. (c.value ≡ command_cmd image place) × (c.limit ≡ 0))
 shown rule.TableHome = OfImage Unpromised (λ image place c. IsHomelessShown image c)
 shown rule.HeaderHome = OfImage HasHeader (λ image place c. (c.limit ≡ 1) ⊎ ((segment : ℕ) × (c.limit ≡ vmaddr image segment)))
-shown rule.RebaseOpcode = OfImage Unpromised (λ image place c. (slice_get image place ≡ Some c.value) × (c.limit ≡ 143))
-shown rule.RebaseSlot = OfImage Unpromised (λ image place c. (c.limit ≡ 0) ⊎ IsFileSize image c.limit)
-shown rule.RebaseTotal = OfImage Unpromised (λ image place c. c.limit ≡ written (budget_of image))
-shown rule.BindOpcode = OfImage Unpromised (λ image place c. (slice_get image place ≡ Some c.value) × (c.limit ≡ 207))
-shown rule.BindLibrary = OfImage Unpromised (λ image place c. c.limit ≡ library_count image)
-shown rule.BindSymbol = OfImage Unpromised (λ image place c. c.limit ≡ 0)
-shown rule.BindSlot = OfImage Unpromised (λ image place c. (c.limit ≡ 0) ⊎ IsFileSize image c.limit)
-shown rule.BindTotal = OfImage Unpromised (λ image place c. c.limit ≡ written (budget_of image))
-shown rule.BindNames = OfImage Unpromised (λ image place c. c.limit ≤ length image)
+shown rule.RebaseOpcode = OfImage HasRebaseOpcode (λ image place c. (slice_get image place ≡ Some c.value) × (c.limit ≡ 143))
+shown rule.RebaseSlot = OfImage (HasRebase asked.Slot) (λ image place c. ShowsStep asked.Slot streams.Rebase image place c)
+shown rule.RebaseTotal = OfImage (HasRebase asked.Total) (λ image place c. ShowsStep asked.Total streams.Rebase image place c)
+shown rule.BindOpcode = OfImage HasBindOpcode (λ image place c. (slice_get image place ≡ Some c.value) × (c.limit ≡ 207))
+shown rule.BindLibrary = OfImage (HasBind asked.Library) (λ image place c. OfBinds (λ one. ShowsStep asked.Library one image place c))
+shown rule.BindSymbol = OfImage (HasBind asked.Symbol) (λ image place c. OfBinds (λ one. ShowsStep asked.Symbol one image place c))
+shown rule.BindSlot = OfImage (HasBind asked.Slot) (λ image place c. OfBinds (λ one. ShowsStep asked.Slot one image place c))
+shown rule.BindTotal = OfImage (HasBind asked.Total) (λ image place c. OfBinds (λ one. ShowsStep asked.Total one image place c))
+shown rule.BindNames = OfImage (HasBind asked.Names) (λ image place c. OfBinds (λ one. ShowsStep asked.Names one image place c))
 shown rule.ChainHeader = OfImage HasChainHeader (λ image place c. IsChainSize image c.value × (c.limit ≡ chained.DYLD_CHAINED_FIXUPS_HEADER_SIZE))
-shown rule.ChainStarts = OfImage Unpromised (λ image place c. IsChainSize image c.limit ⊎ ((c.value ≡ word_at image place) × (c.limit ≡ length (all_segments image))))
-shown rule.ChainImports = OfImage Unpromised (λ image place c. IsChainSize image c.limit)
-shown rule.ChainTotal = OfImage Unpromised (λ image place c. IsChainSize image c.limit)
-shown rule.ChainLibrary = OfImage Unpromised (λ image place c. c.limit ≡ library_count image)
+shown rule.ChainStarts = OfImage (InFixups IsStartsAt) (λ image place c. IsChainSize image c.limit ⊎ ((c.value ≡ word_at image place) × (c.limit ≡ length (all_segments image))))
+shown rule.ChainImports = OfImage (InFixups IsImportsAt) (λ image place c. IsChainSize image c.limit)
+shown rule.ChainTotal = OfImage (InFixups IsShortAt) (λ image place c. IsChainSize image c.limit)
+shown rule.ChainLibrary = OfImage (InFixups IsImportAt) (λ image place c. c.limit ≡ library_count image)
 shown rule.ChainSlot = OfImage Unpromised (λ image place c. 8 ≤ c.value)
 shown rule.ChainBind = OfImage Unpromised (λ image place c. Binds image place c.value)
 shown rule.ExportNode = OfImage HasNodeAt (λ image place c. InTrie image place (λ trie offset. (c.value ≡ offset) × (c.limit ≡ length trie)))
@@ -351,20 +390,20 @@ shown rule.ExportAddress = OfImage (HasNodeWith (λ image trie terminal. (addres
 shown rule.FunctionNumber = OfImage (λ image place. InTable image loader.LC_FUNCTION_STARTS (λ start table offset. offset < length table) place) (λ image place c. IsByteShown image place c)
 shown rule.FunctionStart = OfImage (λ image place. InTable image loader.LC_FUNCTION_STARTS (λ start table offset. HasFunction image table offset) place) (λ image place c. IsFunctionShown image place c.value)
 shown rule.DataInCode = OfImage (λ image place. InTable image loader.LC_DATA_IN_CODE (λ start table offset. IsEntryPlace table offset) place) (λ image place c. IsRestShown image c ⊎ IsEntryShown (entry_at image place) c)
-shown rule.InitOffset = OfImage Unpromised (λ image place c. IsInitializerShown image place c)
-shown rule.SignatureBlob = OfImage Unpromised (λ image place c. ShowsSignature image place c.value c.limit IsSuperblobShown (λ start. IsBlobShown))
-shown rule.SignatureDirectory = OfImage Unpromised (λ image place c. ShowsSignature image place c.value c.limit (λ signature value limit. (value ≡ 0) × (limit ≡ 1)) (λ start signature k. IsUnsoundShown start (bytes_at signature k)))
-shown rule.SignatureWhole = OfImage Unpromised (λ image place c. ShowsSignature image place c.value c.limit (λ signature value limit. ⊥) IsLimitShown)
-shown rule.SymbolLibrary = OfImage Unpromised (λ image place c. (c.value ≡ library_ordinal (symbol_at image place)) × (c.limit ≡ library_count image))
-shown rule.SymbolValue = OfImage Unpromised (λ image place c. (c.value ≡ (symbol_at image place).value) × (c.limit ≡ 0))
-shown rule.SymbolIndirect = OfImage Unpromised (λ image place c. c.value ≡ (symbol_at image place).value)
-shown rule.IndirectRange = OfImage Unpromised (λ image place c. IsIndirectShown image place c)
-shown rule.ObsoleteTable = OfImage Unpromised (λ image place c. IsCountShown image place c.value × (c.limit ≡ 0))
-shown rule.Relocation = OfImage Unpromised (λ image place c. IsRelocationShown (relocation_at image place) c)
+shown rule.InitOffset = OfImage HasInitOffset (λ image place c. IsInitializerShown image place c)
+shown rule.SignatureBlob = OfImage (InSignature IsBlobAt) (λ image place c. ShowsSignature image place c.value c.limit IsSuperblobShown (λ start. IsBlobShown))
+shown rule.SignatureDirectory = OfImage (InSignature IsDirectoryPlace) (λ image place c. ShowsSignature image place c.value c.limit (λ signature value limit. (value ≡ 0) × (limit ≡ 1)) (λ start signature k. IsUnsoundShown start (bytes_at signature k)))
+shown rule.SignatureWhole = OfImage (InSignature IsLimitAt) (λ image place c. ShowsSignature image place c.value c.limit (λ signature value limit. ⊥) IsLimitShown)
+shown rule.SymbolLibrary = OfImage HasSymbol (λ image place c. (c.value ≡ library_ordinal (symbol_at image place)) × (c.limit ≡ library_count image))
+shown rule.SymbolValue = OfImage HasSymbol (λ image place c. (c.value ≡ (symbol_at image place).value) × (c.limit ≡ 0))
+shown rule.SymbolIndirect = OfImage HasSymbol (λ image place c. c.value ≡ (symbol_at image place).value)
+shown rule.IndirectRange = OfImage (λ image place. Opens image × HasSection image place) IsIndirectShown
+shown rule.ObsoleteTable = OfImage (λ image place. HasCommand image place × (command_cmd image place ≡ loader.LC_DYSYMTAB) × ((count : ℕ) × IsCountShown image place count)) (λ image place c. IsCountShown image place c.value × (c.limit ≡ 0))
+shown rule.Relocation = OfImage HasRelocation (λ image place c. IsRelocationShown (relocation_at image place) c)
 shown rule.Thread = OfImage HasCommand (λ image place c. IsThreadShown image place c)
 shown rule.CommandContent = OfImage HasCommand (λ image place c. c.value ≡ command_size image place)
 shown rule.SignatureMissing = OfImage HasStart (λ image place c. (place ≡ 0) × (c.value ≡ 0) × (c.limit ≡ 1))
-shown rule.SignatureExecutable = OfImage Unpromised (λ image place c. Share c)
-shown rule.DirectoryRepeated = OfImage Unpromised (λ image place c. IsRepeatShown image place c.value × (c.limit ≡ c.value) × IsBefore c)
+shown rule.SignatureExecutable = OfImage (λ image place. HasSegment image place × Opens image × IsSomeAnd (named_table image loader.LC_CODE_SIGNATURE) (Shares (bytes_of_segment image place))) (λ image place c. Share c)
+shown rule.DirectoryRepeated = OfImage (InSignature IsRepeatAt) (λ image place c. IsRepeatShown image place c.value × (c.limit ≡ c.value) × IsBefore c)
 shown rule.SignatureSlack = OfImage (λ image place. HasByte image place × InTable image loader.LC_CODE_SIGNATURE (λ start signature offset. Unit {0}) place) (λ image place c. IsByteShown image place c)
 shown rule.SignatureHash = OfImage Unpromised (λ image place c. ShowsHash image place c.value c.limit)

@@ -1,6 +1,6 @@
 -- What explains a refusal: what is at the place, and the numbers that a rule compares. (kesvuot.h: struct
 -- kesvuot_explanation)
-use Rattle.std.specs.Prelude.{◌≡◌, ◌≢◌, ℕ, ◌+◌, ◌-◌, ◌*◌, ◌^◌, ◌≤◌, ◌<◌, ◌⊎◌, List, length, map, take, Some, IfSome, slice_get, true}
+use Rattle.std.specs.Prelude.{◌≡◌, ℕ, ◌+◌, ◌*◌, ◌^◌, ◌≤◌, ◌<◌, ◌⊎◌, List, length, map, take, Some, IfSome, slice_get, true}
 use Rattle.std.specs.List.{sum_by}
 use Rattle.std.specs.Option.{unwrap_or}
 use Rattle.macho_fields.specs.Field.{field}
@@ -19,6 +19,9 @@ use Rattle.macho_rows.specs.Loads.{wanted_left, IsLoad}
 use Rattle.macho_rows.specs.Sections.{nsects_at}
 use Rattle.macho_rows.specs.Segments.{last_address}
 use Rattle.macho_rows.specs.Spans.{part_or_none}
+use Rattle.macho_spans.specs.Span.{Holds, Shares}
+use Rattle.macho_spans.specs.declared.span.Span.{Span}
+use Rattle.macho_tables.specs.Homes.{bytes_of_segment}
 use Rattle.macho_explain.specs.declared.section.SectionAt.{SectionAt}
 use Rattle.macho_explain.specs.declared.segment.SegmentAt.{SegmentAt}
 use Rattle.macho_explain.specs.declared.segment.SegmentWith.{SegmentWith}
@@ -26,7 +29,6 @@ use Rattle.macho_explain.specs.declared.segment.SegmentWith.TheVariants as with
 use Rattle.macho_explain.specs.declared.walk.Sought.{Sought}
 use Rattle.macho_explain.specs.declared.walk.Sought.TheVariants as sought
 use Rattle.macho_explain.specs.declared.walk.Walked.{Walked}
-use Rattle.macho_rows.specs.declared.load.Load.{Load}
 use Rattle.macho_rows.specs.declared.load.Wanted.TheVariants as wanted
 
 -- the number in the word at a place, and in the 8 bytes there, 0 where these are not all inside
@@ -88,6 +90,11 @@ abbrev pub NoneMeets : List ℕ → Sought → Type 0
 NoneMeets image which =
     (k command : ℕ) → slice_get (all_loads image) k ≡ Some command → ¬ Meets image which command
 
+-- none of the first commands is, so many
+abbrev pub NoneMeetsBefore : List ℕ → Sought → ℕ → Type 0
+NoneMeetsBefore image which index =
+    (k command : ℕ) → k < index → slice_get (all_loads image) k ≡ Some command → ¬ Meets image which command
+
 -- there are more commands, or sections, than are counted: no file has so many
 abbrev pub IsUncounted : List ℕ → Type 0
 IsUncounted image =
@@ -100,17 +107,22 @@ MeetsLimit (sought.At place) cmd = Unit {0}
 MeetsLimit (sought.First wanted) cmd = cmd ≡ wanted
 MeetsLimit (sought.OfKind wanted) cmd = share_kind cmd wanted ≡ true
 
--- the command that is sought, with its index, and how many sections are before it
+-- the first command that is sought, with its index, and how many sections are before it
 pub record IsWalked (image : List ℕ) (which : Sought) (walked : Walked) : Type 0 where
   pub listed : slice_get (all_loads image) walked.index ≡ Some walked.load.place
   pub load : IsLoad image walked.load
   pub past : 32 ≤ walked.load.place
   pub meets : Meets image which walked.load.place
+  pub first : NoneMeetsBefore image which walked.index
   pub sections : walked.sections ≡ sections_before image walked.index
 
 -- the fields bound a table by its bytes, in a field of 32 bits
 abbrev pub IsOfBytes : TableFields → Type 0
 IsOfBytes fields = (fields.width ≡ Uint32) × (fields.item_size ≡ 1)
+
+-- the addresses of a segment
+abbrev pub memory_of : List ℕ → ℕ → Span
+memory_of image segment = record { start = vmaddr image segment; len = vmsize image segment }
 
 -- the fields of the segment that is found
 pub record IsSegmentRow (image : List ℕ) (segment : SegmentAt) : Type 0 where
@@ -120,36 +132,29 @@ pub record IsSegmentRow (image : List ℕ) (segment : SegmentAt) : Type 0 where
   pub file_start : segment.row.fileoff ≡ fileoff image segment.place
   pub file_size : segment.row.filesize ≡ filesize image segment.place
 
--- what is said of the segment that is sought
-abbrev pub MeetsSegment : SegmentWith → SegmentAt → Type 0
-MeetsSegment (with.Command place) segment = segment.place ≡ place
-MeetsSegment (with.Address address) segment =
-    (segment.row.vmaddr ≤ address) × (address < segment.row.vmaddr + segment.row.vmsize)
-MeetsSegment with.Base segment = Unit {0}
-MeetsSegment with.Start segment = Unit {0}
-MeetsSegment (with.FileByte place) segment = Unit {0}
-MeetsSegment (with.SharingMemory span end) segment = Unit {0}
-MeetsSegment (with.SharingFile span end) segment = Unit {0}
-
--- the segment whose command is at a place is the one whose command is sought; nothing is said of what else is sought
-abbrev pub MayMeet : SegmentWith → ℕ → Type 0
-MayMeet (with.Command place) command = command ≡ place
-MayMeet with.Base command = ⊥
-MayMeet with.Start command = ⊥
-MayMeet (with.Address address) command = ⊥
-MayMeet (with.FileByte place) command = ⊥
-MayMeet (with.SharingMemory span end) command = ⊥
-MayMeet (with.SharingFile span end) command = ⊥
+-- the segment whose command is at a place is one that is sought
+abbrev pub MeetsSegment : List ℕ → SegmentWith → ℕ → Type 0
+MeetsSegment image (with.Command place) segment = segment ≡ place
+MeetsSegment image with.Base segment =
+    (fileoff image segment ≡ 0) × (0 < filesize image segment) × (0 < vmsize image segment)
+MeetsSegment image with.Start segment = (fileoff image segment ≡ 0) × (0 < vmsize image segment)
+MeetsSegment image (with.Address address) segment = Holds (memory_of image segment) address
+MeetsSegment image (with.FileByte place) segment = Holds (bytes_of_segment image segment) place
+MeetsSegment image (with.SharingMemory span end) segment =
+    (segment < end) × Shares span (memory_of image segment)
+MeetsSegment image (with.SharingFile span end) segment =
+    (segment < end) × Shares span (bytes_of_segment image segment)
 
 -- no segment is
 abbrev pub NoSegmentMeets : List ℕ → SegmentWith → Type 0
 NoSegmentMeets image wanted =
-    (k command : ℕ) → slice_get (all_segment_loads image) k ≡ Some command → ¬ MayMeet wanted command
+    (k segment : ℕ) → slice_get (all_segment_loads image) k ≡ Some segment
+    → ¬ MeetsSegment image wanted segment
 
 -- the segment that is sought, with its fields
 pub record IsSegmentFound (image : List ℕ) (wanted : SegmentWith) (segment : SegmentAt) : Type 0 where
   pub row : IsSegmentRow image segment
-  pub meets : MeetsSegment wanted segment
+  pub meets : MeetsSegment image wanted segment.place
 
 -- the fields of the section that is found
 pub record IsSectionRow (image : List ℕ) (section : SectionAt) : Type 0 where
@@ -162,7 +167,15 @@ pub record IsSectionRow (image : List ℕ) (section : SectionAt) : Type 0 where
   pub reserved1 : section.row.reserved1 ≡ reserved1 image section.place
   pub reserved2 : section.row.reserved2 ≡ reserved2 image section.place
 
+-- the structure of the nth section of a command has the byte at the place
+abbrev pub IsNthSection : List ℕ → ℕ → ℕ → ℕ → Type 0
+IsNthSection image command nth place =
+    (nth < nsects_at image command) × (command + 72 + 80 * nth ≤ place) × (place < command + 72 + 80 * nth + 80)
+
 -- the section that has a place, with its fields
 pub record IsSectionFound (image : List ℕ) (place : ℕ) (section : SectionAt) : Type 0 where
   pub row : IsSectionRow image section
   pub at : IfSome section.index (λ index. IsSectionAt image index place)
+  pub from : section.place ≤ place
+  pub to : place < section.place + 80
+  pub start : (nth : ℕ) × (section.place ≡ section.segment + 72 + 80 * nth)

@@ -1,14 +1,15 @@
 -- What explains a refusal. (docs/reference/explain.md)
-use Rattle.std.specs.Prelude.{◌≡◌, ℕ, ◌+◌, ◌≤◌, ◌⊎◌, List, length, Option, Some, None, IfSome, IsSome, IsSomeAnd, MatchOption, slice_get}
+use Rattle.std.specs.Prelude.{◌≡◌, ℕ, ◌+◌, ◌≤◌, ◌⊎◌, List, length, Option, Some, None, IfSome, IsSomeAnd, MatchOption, slice_get}
 use Rattle.std.specs.Option.{option_map}
 use Rattle.macho_fields.specs.Bytes.{bytes_of}
-use Rattle.macho_fields.specs.Universal.{FileSlice, slices_of}
+use Rattle.macho_fields.specs.Universal.{slices_of}
 use Rattle.macho_fields.specs.declared.rule.Rule.{Rule}
 use Rattle.macho_exports.specs.ExportTrie.{node_at}
 use Rattle.macho_exports.specs.Exports.{export_table}
 use Rattle.macho_signature.specs.Superblobs.{entry_offset}
 use Rattle.macho_spans.specs.Span.{end_of}
 use Rattle.macho_explain.specs.Compared.{Shown, OfFile, OfImage, shown, node_bounds}
+use Rattle.macho_explain.specs.FirstSlices.{HasImageWith, HasSlices, IsByteOf, IsFirstWith}
 use Rattle.macho_explain.specs.Wholes.{IsWhole}
 use Rattle.macho_explain.specs.Explain.{all_loads, image_of, IsCommandAt, IsSectionAt, IsSymbolAt}
 use Rattle.macho_explain.specs.declared.explanation.Explanation.{Explanation}
@@ -83,27 +84,39 @@ pub record HasPlace (size place : ℕ) (part : Part) : Type 0 where
   pub from : part.start ≤ place
   pub to : place ≤ part.start + part.size
 
--- what is shown of the file, or of the image in the slice with the index, and the indices
-abbrev pub ShowsAs : Shown → List ℕ → ℕ → Explanation → Type 0
-ShowsAs (OfFile S P) file place e = P file place e.at.slice e.conflict
-ShowsAs (OfImage S P) file place e =
+-- what is shown of the file, or of the image in the first slice that has the byte, and the indices
+abbrev pub ShowsAs : Shown → Rule → List ℕ → ℕ → Explanation → Type 0
+ShowsAs (OfFile S P) r file place e = P file place e.at.slice e.conflict
+ShowsAs (OfImage S P) r file place e =
     (image : Sliced) × IsImageOf file place image.index (image_in image) image.place
+    × ((byte : ℕ) → IsByteOf r place byte → IsFirstWith file byte image.index)
     × IsSpot image e.at × P (image_in image) image.place e.conflict
 
 -- What explains that a rule is broken at a place of the file.
 abbrev pub IsExplained : Rule → List ℕ → ℕ → Explanation → Type 0
 IsExplained rule file place e =
-    HasPlace (length file) place e.at.part × ShowsAs (shown rule) file place e
+    HasPlace (length file) place e.at.part × ShowsAs (shown rule) rule file place e
 
--- Nothing explains it: what the rule is about is not there.
-abbrev pub LacksAs : Shown → List ℕ → ℕ → Type 0
-LacksAs (OfFile S P) file place = place ≤ length file → ¬ S file place
-LacksAs (OfImage S P) file place = Unit {0}
+-- Nothing explains it: what the rule is about is not there, in the file, or in the image in the first slice that has
+-- the byte.
+abbrev pub LacksAs : Shown → Rule → List ℕ → ℕ → Type 0
+LacksAs (OfFile S P) r file place = place ≤ length file → ¬ S file place
+LacksAs (OfImage S P) r file place =
+    place ≤ length file → HasSlices file → (byte k at : ℕ) (image : List ℕ) → IsByteOf r place byte
+    → IsFirstWith file byte k → IsImageOf file place k image at → ¬ S image at
 
 abbrev pub IsUnexplained : Rule → List ℕ → ℕ → Type 0
-IsUnexplained rule file place = LacksAs (shown rule) file place
+IsUnexplained rule file place = LacksAs (shown rule) rule file place
 
 -- What only proofs need.
+
+-- the image that was found to have the place
+abbrev pub IsImageFound : Rule → List ℕ → ℕ → Option Sliced → Type 0
+IsImageFound r file place found =
+    MatchOption found
+    (HasSlices file → (byte k : ℕ) → IsByteOf r place byte → ¬ HasImageWith file byte k)
+    (λ i. IsImageOf file place i.index (image_in i) i.place
+    × ((byte : ℕ) → IsByteOf r place byte → IsFirstWith file byte i.index))
 
 -- a place of the export trie, and the node there, if one ends in it
 pub record IsNodeHere (sliced : Sliced) (node : NodeHere) : Type 0 where

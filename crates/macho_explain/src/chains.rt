@@ -1,18 +1,21 @@
 //! The rules of the table of chained fixups. (`mach-o/fixup-chains.h`)
 
-ghost use Rattle.std.specs.Prelude.{◌≡◌, ◌≢◌, ◌<◌, ℕ, List, IfNone, IfSome, MatchOption};
+ghost use Rattle.std.specs.Prelude.{◌≡◌, ◌≢◌, ◌+◌, ◌^◌, ◌≤◌, ◌<◌, ℕ, List, suc, length, IfNone, IfSome, MatchOption, None, Some};
 ghost use Rattle.macho_fields.specs.Bytes.{bytes_of};
 ghost use Rattle.macho_fields.specs.declared.rule.Rule.{Rule};
-ghost use Rattle.macho_chains.specs.ChainImports.{ImportsEndPast};
+ghost use Rattle.macho_chains.specs.ChainImports.{ImportsEndPast, import_offset as import_offset_of, names_size as names_size_of};
+ghost use Rattle.macho_chains.specs.ChainStarts.{entry_offset as entry_offset_of};
 ghost use Rattle.macho_chains.specs.declared.chain_header.ChainHeader.{ChainHeader};
 ghost use Rattle.macho_spans.specs.declared.span.Span.{Span};
-ghost use Rattle.macho_explain.specs.Compared.{AreChains, IsChainSize};
+ghost use Rattle.macho_explain.specs.Compared.{IsChainSize};
+ghost use Rattle.macho_explain.specs.Fixups.{AreChains, IsEntryAt, IsImportAt};
 ghost use Rattle.macho_explain.specs.Wholes.{Opens};
 ghost use Rattle.macho_explain.specs.Explained.{Explains, ExplainsIn, IsSpot};
 
 use crate::command::command_here;
 use crate::conflict::Conflict;
 use crate::explanation::Explanation;
+use crate::item::short_item_at;
 use crate::part::{Part, PartKind, below_zero, clamped};
 use crate::segment::segment_at;
 use crate::sliced::Sliced;
@@ -104,7 +107,7 @@ pub(crate) fn chain_starts(sliced: &Sliced) -> Option<Explanation>
 
 // The array of the segments, at the place.
 fn at_array(sliced: &Sliced, chains: &Chains) -> Option<Explanation>
-    ensures { IfSome result (Explains Rule.ChainStarts sliced.now) }
+    ensures { MatchOption result (¬ Opens (bytes_of sliced.now.held.bytes)) (Explains Rule.ChainStarts sliced.now) }
 {
     let segments = segment_count(&sliced.held.open()?);
     let count = u64::from(sliced.word(sliced.place));
@@ -117,11 +120,17 @@ fn at_array(sliced: &Sliced, chains: &Chains) -> Option<Explanation>
 // The entry at the place, and the starts of its segment.
 fn at_entry(sliced: &Sliced, chains: &Chains) -> Option<Explanation>
     requires { IsChainSize (bytes_of sliced.now.held.bytes) chains.now.table.span.len }
-    ensures { IfSome result (Explains Rule.ChainStarts sliced.now) }
+    ensures { MatchOption result ((offset : ℕ) → sliced.now.place ≡ chains.now.table.span.start + offset
+        → ¬ (Opens (bytes_of sliced.now.held.bytes) × IsEntryAt (bytes_of chains.now.bytes) chains.now.header offset))
+        (Explains Rule.ChainStarts sliced.now) }
 {
     let Span { start, len } = chains.table.span;
     let (index, offset) = chains.entry_at(sliced.place.checked_sub(start)?)?;
-    let segment = sliced.held.open()?.segments().nth(index as usize)?;
+    let image = sliced.held.open()?;
+    let second = match image.segments().nth(index as usize) {
+        Some(segment) => segment_at(sliced, segment.place()),
+        None => None,
+    };
     let span = Span {
         start: start.saturating_add(offset),
         len: starts_size(chains.bytes, offset),
@@ -131,7 +140,7 @@ fn at_entry(sliced: &Sliced, chains: &Chains) -> Option<Explanation>
     let entry = sliced.structure(PartKind::ChainEntry, sliced.place, size, Some(index));
     Some(
         sliced.at(entry).shows(Conflict {
-            second: segment_at(sliced, segment.place()),
+            second,
             ..Conflict::alone(starts, offset.saturating_add(span.len), len)
         }),
     )
@@ -225,15 +234,16 @@ impl Chains<'_> {
 
     // The index of the entry at an offset of the table, and the offset of the starts of its segment, if it
     // has some.
-    fn entry_at(&self, offset: u64) -> Option<(u32, u64)> {
+    fn entry_at(&self, offset: u64) -> Option<(u32, u64)>
+        ensures { MatchOption result (¬ IsEntryAt (bytes_of self.now.bytes) self.now.header offset)
+            (λ found. offset ≡ entry_offset_of self.now.header found.0) }
+    {
         let starts_offset = u64::from(self.header.starts_offset);
         let count = self.bytes.u32_at(Order::Little, starts_offset)?;
-        let past = offset
-            .checked_sub(starts_offset)?
-            .checked_sub(DYLD_CHAINED_STARTS_IN_IMAGE_SIZE)?;
-        let index = u32::try_from(past / SEG_INFO_OFFSET_SIZE).ok()?;
+        let first = starts_offset + DYLD_CHAINED_STARTS_IN_IMAGE_SIZE;
+        let index = short_item_at(first, SEG_INFO_OFFSET_SIZE, count, offset)?;
         let entry = self.bytes.u32_at(Order::Little, offset)?;
-        if past % SEG_INFO_OFFSET_SIZE != 0 || index >= count || entry == 0 {
+        if entry == 0 {
             return None;
         }
         Some((index, starts_offset + u64::from(entry)))
@@ -243,18 +253,18 @@ impl Chains<'_> {
     fn import_at(&self, place: u64) -> Option<u32>
         ensures inside { IfSome result (λ index. ¬ ImportsEndPast (bytes_of self.now.bytes) self.now.header) }
         ensures listed { IfSome result (λ index. index < self.now.header.imports_count) }
+        ensures at { MatchOption result ((offset : ℕ) → place ≡ self.now.table.span.start + offset
+            → ¬ IsImportAt (bytes_of self.now.bytes) self.now.header offset)
+            (λ index. place ≡ self.now.table.span.start + import_offset_of self.now.header index) }
     {
         let header = self.header;
         let offset = place.checked_sub(self.table.span.start)?;
-        let past = offset.checked_sub(u64::from(header.imports_offset))?;
-        let index = u32::try_from(past.checked_div(header.imports_format.bits().size)?).ok()?;
-        if header.imports_end_past(self.bytes)
-            || index >= header.imports_count
-            || header.import_offset(index) != offset
-        {
+        if header.imports_end_past(self.bytes) {
             return None;
         }
-        Some(index)
+        let size = header.imports_format.bits().size;
+        let start = u64::from(header.imports_offset);
+        short_item_at(start, size, header.imports_count, offset)
     }
 
     // How many bytes the names up to and including that of the import with this index have, a zero byte for each
@@ -262,6 +272,9 @@ impl Chains<'_> {
     fn names_size(&self, index: u32) -> Option<u128>
         requires inside { ¬ ImportsEndPast (bytes_of self.now.bytes) self.now.header }
         requires listed { index < self.now.header.imports_count }
+        ensures { MatchOption result
+            (length (bytes_of self.now.bytes) < names_size_of (bytes_of self.now.bytes) self.now.header index)
+            (λ size. size ≡ names_size_of (bytes_of self.now.bytes) self.now.header (suc index)) }
     {
         let mut total: u128 = 0;
         for earlier in 0..index {
@@ -277,6 +290,9 @@ impl Chains<'_> {
     fn name_size(&self, index: u32) -> u128
         requires inside { ¬ ImportsEndPast (bytes_of self.now.bytes) self.now.header }
         requires listed { index < self.now.header.imports_count }
+        ensures size { result + names_size_of (bytes_of self.now.bytes) self.now.header index
+            ≡ names_size_of (bytes_of self.now.bytes) self.now.header (suc index) }
+        ensures near { result ≤ 2 ^ 64 }
     {
         name_size(self.bytes, self.header.name_start(self.bytes, index))
     }

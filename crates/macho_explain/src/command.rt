@@ -1,11 +1,12 @@
 //! The rules of load commands. (`mach-o/loader.h`)
 
-ghost use Rattle.std.specs.Prelude.{◌≡◌, ◌<◌, IfSome, MatchOption};
+ghost use Rattle.std.specs.Prelude.{◌≡◌, ◌<◌, ◌⊎◌, ℕ, IfNone, IfSome, MatchOption};
 ghost use Rattle.macho_fields.specs.Bytes.{bytes_of};
 ghost use Rattle.macho_fields.specs.declared.rule.Rule.{Rule};
-ghost use Rattle.macho_explain.specs.Compared.{HasCommand, IsCountShown};
+ghost use Rattle.macho_explain.specs.Commanded.{symbols_shown};
+ghost use Rattle.macho_explain.specs.Compared.{HasCommand, IsCountShown, IsObsoleteFound};
 ghost use Rattle.macho_explain.specs.Explained.{ExplainsIn, IsSpot};
-ghost use Rattle.macho_explain.specs.Explain.{IsWalked, MeetsLimit};
+ghost use Rattle.macho_explain.specs.Explain.{IsUncounted, IsWalked, MeetsLimit, NoneMeetsBefore};
 ghost use Rattle.macho_explain.specs.Parts.{IsBefore};
 ghost use Rattle.macho_explain.specs.declared.walk.Sought.TheVariants as sought;
 
@@ -23,8 +24,9 @@ use macho_fields::header::loader::dysymtab_command::{
 };
 use macho_fields::header::loader::entry_point_command::ENTRYOFF;
 use macho_fields::header::loader::load_command::CMDSIZE;
+use macho_fields::header::loader::symtab_command::NSYMS;
 use macho_fields::header::loader::{
-    LC_DYLD_CHAINED_FIXUPS, LC_STR_OFFSET, LC_THREAD, LC_UNIXTHREAD, LOAD_COMMAND_SIZE,
+    LC_DYLD_CHAINED_FIXUPS, LC_STR_OFFSET, LC_SYMTAB, LC_THREAD, LC_UNIXTHREAD, LOAD_COMMAND_SIZE,
 };
 use macho_fields::{Span, structure_of};
 use macho_rows::load::Load;
@@ -118,6 +120,8 @@ pub(crate) fn table_repeated(sliced: &Sliced) -> Option<Explanation>
 
 // The command that is sought, which comes before this one.
 fn repeated(sliced: &Sliced, walked: &Walked, sought: Sought) -> Option<Conflict>
+    ensures none { IfNone result (NoneMeetsBefore (bytes_of sliced.now.held.bytes) sought walked.now.index
+        ⊎ IsUncounted (bytes_of sliced.now.held.bytes)) }
     ensures value { IfSome result (λ c. c.value ≡ walked.now.load.cmd) }
     ensures order { IfSome result IsBefore }
     ensures limit { IfSome result (λ c. MeetsLimit sought c.limit) }
@@ -233,7 +237,8 @@ pub(crate) fn symbol_group(sliced: &Sliced) -> Option<Explanation>
     ensures { ExplainsIn Rule.SymbolGroup sliced.now result }
 {
     let (at, walked) = command_here(sliced)?;
-    let (symbols, count) = symtab_table(sliced, 0);
+    let (symbols, _) = symtab_table(sliced, 0);
+    let count = symbol_count(sliced);
     for index in 0..GROUPS {
         let place = walked
             .load
@@ -252,6 +257,17 @@ pub(crate) fn symbol_group(sliced: &Sliced) -> Option<Explanation>
         }
     }
     None
+}
+
+// How many symbols the first `LC_SYMTAB` has, or 0 without one.
+fn symbol_count(sliced: &Sliced) -> u64
+    ensures { ¬ IsUncounted (bytes_of sliced.now.held.bytes)
+        → result ≡ symbols_shown (bytes_of sliced.now.held.bytes) }
+{
+    match walk_to(sliced.held.bytes, Sought::First(LC_SYMTAB)) {
+        Some(symtab) => u64::from(sliced.word(symtab.load.place + NSYMS)),
+        None => 0,
+    }
 }
 
 // The first table of `LC_DYSYMTAB` that only older loaders follow, and how many entries it has; if it has relocations,
@@ -275,22 +291,27 @@ pub(crate) fn obsolete_table(sliced: &Sliced) -> Option<Explanation>
 
 // The index of the first such table of the command at the place, and how many entries it has.
 fn first_obsolete(sliced: &Sliced) -> Option<(u64, u64)>
-    ensures { IfSome result (λ found.
-        IsCountShown (bytes_of sliced.now.held.bytes) sliced.now.place found.1) }
+    ensures { MatchOption result
+        ((count : ℕ) → ¬ IsCountShown (bytes_of sliced.now.held.bytes) sliced.now.place count)
+        (λ found. (found.0 < 6) × IsCountShown (bytes_of sliced.now.held.bytes) sliced.now.place found.1) }
 {
-    for (index, field) in [
-        (0, NTOC),
-        (1, NMODTAB),
-        (2, NEXTREFSYMS),
-        (4, NEXTREL),
-        (5, NLOCREL),
-    ] {
-        let count = u64::from(sliced.word(sliced.place.saturating_add(field)));
-        if count > 0 {
-            return Some((index, count));
-        }
+    obsolete(sliced, 0, NTOC)
+        .or(obsolete(sliced, 1, NMODTAB))
+        .or(obsolete(sliced, 2, NEXTREFSYMS))
+        .or(obsolete(sliced, 4, NEXTREL))
+        .or(obsolete(sliced, 5, NLOCREL))
+}
+
+// The index of a table of the command at the place, and how many entries it has by this field, if it has some.
+fn obsolete(sliced: &Sliced, index: u64, field: u64) -> Option<(u64, u64)>
+    ensures { IsObsoleteFound (bytes_of sliced.now.held.bytes) sliced.now.place index field result }
+{
+    let count = u64::from(sliced.word(sliced.place.saturating_add(field)));
+    if count > 0 {
+        Some((index, count))
+    } else {
+        None
     }
-    None
 }
 
 // The segment with the base, and the one with the address of the entry.

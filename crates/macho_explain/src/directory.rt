@@ -1,8 +1,11 @@
 //! Why a blob of a code signature is no sound code directory. (`cs_blobs.h`: `CS_CodeDirectory`)
 
-ghost use Rattle.std.specs.Prelude.{◌≡◌, ◌⊎◌, length, IfSome};
+ghost use Rattle.std.specs.Prelude.{◌≡◌, ◌+◌, ◌≤◌, ◌<◌, ◌⊎◌, length, true, MatchOption};
 ghost use Rattle.macho_fields.specs.Bytes.{bytes_of};
+ghost use Rattle.macho_signature.specs.CodeDirectories.{is_directory, HasEarlierHashes, HasHashes, HasName, IsSound};
 ghost use Rattle.macho_signature.specs.Signature.{bytes_at};
+ghost use Rattle.macho_signature.specs.Superblobs.{blob_count, AreGoodBlobs};
+ghost use Rattle.macho_explain.specs.Blobs.{IsNotSound};
 ghost use Rattle.macho_explain.specs.Signatures.{AreEndsShown, AreHashesShown, IsFormShown, IsNameShown, IsSoundnessShown, IsUnsoundShown};
 
 use crate::conflict::Conflict;
@@ -24,7 +27,10 @@ use macho_signature::superblob::MAGIC;
 
 // Why the blob of an entry is no code directory, or an unsound one.
 pub(crate) fn bad_directory(sliced: &Sliced, signature: &Signature, index: u32) -> Option<Conflict>
-    ensures { IfSome result (λ c. IsUnsoundShown signature.now.table.span.start
+    ensures { MatchOption result (¬ (AreGoodBlobs (bytes_of signature.now.bytes)
+        × (index < blob_count (bytes_of signature.now.bytes))
+        × IsNotSound signature.now.table.span.start (bytes_of signature.now.bytes) index))
+        (λ c. IsUnsoundShown signature.now.table.span.start
         (bytes_at (bytes_of signature.now.bytes) index) c.value c.limit) }
 {
     let blob = signature.placed_blob(index)?;
@@ -41,7 +47,8 @@ pub(crate) fn bad_directory(sliced: &Sliced, signature: &Signature, index: u32) 
 
 // Why a blob is no code directory: its magic number, its size, its version, or its scatter vector.
 fn form_numbers(blob: Bytes) -> Option<Numbers>
-    ensures { IfSome result (λ n. IsFormShown (bytes_of blob.entry) n.value n.limit) }
+    ensures { MatchOption result (8 ≤ length (bytes_of blob.entry) → is_directory (bytes_of blob.entry) ≡ true)
+        (λ n. IsFormShown (bytes_of blob.entry) n.value n.limit) }
 {
     let size = blob.len();
     let magic = word(blob, MAGIC)?;
@@ -67,7 +74,8 @@ fn form_numbers(blob: Bytes) -> Option<Numbers>
 
 // Why a code directory is unsound: its hashes, up to where it covers the image, its names, or what else lies in it.
 fn unsound(part: Part, table: &Bounded, blob: Bytes, directory: CodeDirectory) -> Option<Conflict>
-    ensures { IfSome result (λ c. IsSoundnessShown table.now.span.start (bytes_of blob.entry) directory
+    ensures { MatchOption result (IsSound table.now.span.start (bytes_of blob.entry) directory)
+        (λ c. IsSoundnessShown table.now.span.start (bytes_of blob.entry) directory
         c.value c.limit) }
 {
     if let Some(numbers) = hash_numbers(directory, blob.len()) {
@@ -91,7 +99,7 @@ fn unsound(part: Part, table: &Bounded, blob: Bytes, directory: CodeDirectory) -
 
 // Why the hashes of a code directory of so many bytes are unsound: their type or size, or where they lie.
 fn hash_numbers(directory: CodeDirectory, size: u64) -> Option<Numbers>
-    ensures { IfSome result (λ n. AreHashesShown size directory n.value n.limit) }
+    ensures { MatchOption result (HasHashes size directory) (λ n. AreHashesShown size directory n.value n.limit) }
 {
     let hash_size = u64::from(directory.hash_size);
     let Some(wanted) = size_of_hash(directory.hash_type) else {
@@ -112,7 +120,11 @@ fn hash_numbers(directory: CodeDirectory, size: u64) -> Option<Numbers>
 
 // What of a code directory does not end in its blob, and the size of that: a name, or what else lies in it.
 fn content_numbers(blob: Bytes, directory: CodeDirectory) -> Option<Numbers>
-    ensures { IfSome result (λ n. (IsNameShown (bytes_of blob.entry) directory n.value
+    ensures { MatchOption result (HasName (bytes_of blob.entry) directory.ident_offset
+        × HasName (bytes_of blob.entry) directory.team_offset
+        × HasEarlierHashes (length (bytes_of blob.entry)) directory
+        × (directory.linkage_offset + directory.linkage_size ≤ length (bytes_of blob.entry)))
+        (λ n. (IsNameShown (bytes_of blob.entry) directory n.value
         × (n.limit ≡ length (bytes_of blob.entry)))
         ⊎ AreEndsShown (length (bytes_of blob.entry)) directory n.value n.limit) }
 {
@@ -124,8 +136,9 @@ fn content_numbers(blob: Bytes, directory: CodeDirectory) -> Option<Numbers>
 
 // A name of a code directory that does not end in it, and the size of its blob.
 fn name_numbers(blob: Bytes, directory: CodeDirectory) -> Option<Numbers>
-    ensures { IfSome result (λ n. IsNameShown (bytes_of blob.entry) directory n.value
-        × (n.limit ≡ length (bytes_of blob.entry))) }
+    ensures { MatchOption result (HasName (bytes_of blob.entry) directory.ident_offset
+        × HasName (bytes_of blob.entry) directory.team_offset)
+        (λ n. IsNameShown (bytes_of blob.entry) directory n.value × (n.limit ≡ length (bytes_of blob.entry))) }
 {
     let name = endless_name(blob, directory)?;
     let value = u64::from(name);
@@ -135,7 +148,9 @@ fn name_numbers(blob: Bytes, directory: CodeDirectory) -> Option<Numbers>
 
 // Where the hashes before encryption or the linkage of a code directory of so many bytes end, past these.
 fn end_numbers(directory: CodeDirectory, size: u64) -> Option<Numbers>
-    ensures { IfSome result (λ n. AreEndsShown size directory n.value n.limit) }
+    ensures { MatchOption result (HasEarlierHashes size directory
+        × (directory.linkage_offset + directory.linkage_size ≤ size))
+        (λ n. AreEndsShown size directory n.value n.limit) }
 {
     if !directory.has_earlier_hashes(size) {
         return Numbers::above(directory.earlier_hashes_end(), size);
@@ -145,7 +160,8 @@ fn end_numbers(directory: CodeDirectory, size: u64) -> Option<Numbers>
 
 // Where a name of a code directory begins that does not end in its blob.
 fn endless_name(blob: Bytes, directory: CodeDirectory) -> Option<u32>
-    ensures { IfSome result (IsNameShown (bytes_of blob.entry) directory) }
+    ensures { MatchOption result (HasName (bytes_of blob.entry) directory.ident_offset
+        × HasName (bytes_of blob.entry) directory.team_offset) (IsNameShown (bytes_of blob.entry) directory) }
 {
     if !has_name(blob, directory.ident_offset) {
         return Some(directory.ident_offset);

@@ -2,11 +2,15 @@
 
 ghost use Rattle.std.specs.Prelude.{◌≡◌, ◌↔◌, ℕ, ◌+◌, ◌*◌, ◌^◌, ◌<◌, ◌≤◌, length, slice_get, IfSome, IsTrue, MatchOption, Some};
 ghost use Rattle.macho_fields.specs.Bytes.{bytes_of};
-ghost use Rattle.macho_fields.specs.Universal.{slices_of, IsUniversal};
+ghost use Rattle.macho_fields.specs.Field.{number};
+ghost use Rattle.macho_fields.specs.Universal.{entry_count, entry_place, entry_size, has_wide_entries, slices_of, IsUniversal};
+ghost use Rattle.macho_fields.specs.declared.bytes.Order.TheVariants.{Big};
 ghost use Rattle.macho_fields.specs.declared.rule.Rule.{Rule};
-ghost use Rattle.macho_fat.specs.Slices.{slice_of};
+ghost use Rattle.macho_fat.specs.Slices.{slice_of, MarksReadInside};
 ghost use Rattle.macho_explain.specs.Compared.{HasCount};
+ghost use Rattle.macho_explain.specs.Entries.{HasEntry, HasTable, IsForeignSlice};
 ghost use Rattle.macho_explain.specs.Explained.{ExplainsFile};
+ghost use Rattle.macho_explain.specs.FirstSlices.{HasSlices};
 
 use crate::conflict::{Conflict, shared};
 use crate::explanation::Explanation;
@@ -81,16 +85,20 @@ fn header_here(file: Bytes, place: u64) -> Option<Spot>
 
 // The entry at the place, its index, and its slice.
 fn entry_here(file: Bytes, place: u64) -> Option<(Spot, u32, Slice)>
+    ensures entry { MatchOption result (¬ HasEntry (bytes_of file.entry) place)
+        (λ found. HasTable (bytes_of file.entry) → (found.1 < entry_count (bytes_of file.entry))
+        × (place ≡ entry_place (bytes_of file.entry) found.1)) }
     ensures slice { IfSome result (λ found. found.0.slice ≡ Some found.1) }
     ensures listed { IfSome result (λ found.
         slice_get (slices_of (bytes_of file.entry)) found.1 ≡ Some (slice_of found.2)) }
 {
     let offset = place.checked_sub(FAT_HEADER_SIZE)?;
     let size = entry_size(file);
-    if offset % size != 0 {
+    let number = offset / size;
+    if offset % size != 0 || number >= u64::from(entry_count(file)) {
         return None;
     }
-    let index = u32::try_from(offset / size).ok()?;
+    let index = number as u32;
     let slice = slice_with_index(file, index)?;
     let part = structure(PartKind::FatArch, place, size, Some(index));
     Some((Spot::of(Some(index), part), index, slice))
@@ -181,7 +189,10 @@ pub(crate) fn fat_slice_magic(file: Bytes, place: u64) -> Option<Explanation>
 }
 
 // Whether the slice lies in the file, and begins with the magic number of no image.
-fn is_foreign(file: Bytes, slice: &Slice) -> bool {
+fn is_foreign(file: Bytes, slice: &Slice) -> bool
+    requires { MarksReadInside (bytes_of file) slice.now }
+    ensures { IsTrue result ↔ IsForeignSlice (bytes_of file.entry) (slice_of slice.now) }
+{
     match file.part(slice.span) {
         Some(bytes) => !slice.read && !is_unread_image(Bytes::new(bytes)),
         None => false,
@@ -224,8 +235,10 @@ fn part_with(file: Bytes, index: Option<u64>) -> Option<Part> {
 
 // The slice of the entry with an index, in a universal file.
 fn slice_with_index(file: Bytes, index: u32) -> Option<Slice>
-    ensures { IfSome result (λ slice.
-        slice_get (slices_of (bytes_of file.entry)) index ≡ Some (slice_of slice)) }
+    ensures listed { MatchOption result
+        (HasTable (bytes_of file.entry) → entry_count (bytes_of file.entry) ≤ index)
+        (λ slice. slice_get (slices_of (bytes_of file.entry)) index ≡ Some (slice_of slice)) }
+    ensures read { IfSome result (MarksReadInside (bytes_of file.entry)) }
 {
     if !is_universal(file) {
         return None;
@@ -323,11 +336,24 @@ fn first_word(file: Bytes, start: u64, len: u64) -> u32 {
 }
 
 // How many entries the table has. (`fat_header.nfat_arch`)
-fn entry_count(file: Bytes) -> u32 {
+fn entry_count(file: Bytes) -> u32
+    ensures { HasTable (bytes_of file.entry) → result ≡ entry_count (bytes_of file.entry) }
+{
     if !is_universal(file) {
         return 0;
     }
     big_word(file, NFAT_ARCH)
+}
+
+// How many slices the file has.
+pub(crate) fn slice_count(file: Bytes) -> u32
+    ensures { HasSlices (bytes_of file.entry) → result ≡ length (slices_of (bytes_of file.entry)) }
+{
+    if is_universal(file) {
+        entry_count(file)
+    } else {
+        1
+    }
 }
 
 // Whether the file begins as a universal one.
@@ -338,12 +364,15 @@ fn is_universal(file: Bytes) -> bool
 }
 
 // Whether the entries are `fat_arch_64`.
-fn has_wide_entries(file: Bytes) -> bool {
+fn has_wide_entries(file: Bytes) -> bool
+    ensures { 4 ≤ length (bytes_of file.entry) → result ≡ has_wide_entries (bytes_of file.entry) }
+{
     big_word(file, 0) == FAT_MAGIC_64
 }
 
 // The size of an entry.
 fn entry_size(file: Bytes) -> u64
+    ensures size { 4 ≤ length (bytes_of file.entry) → result ≡ entry_size (bytes_of file.entry) }
     ensures some { 0 < result }
     ensures near { result ≤ 32 }
 {
@@ -355,7 +384,10 @@ fn entry_size(file: Bytes) -> u64
 }
 
 // The big-endian word at a place, or 0 past the file.
-fn big_word(file: Bytes, place: u64) -> u32 {
+fn big_word(file: Bytes, place: u64) -> u32
+    ensures { place + 4 ≤ length (bytes_of file.entry)
+        → result ≡ number Big 4 (bytes_of file.entry) place }
+{
     match file.u32_at(Order::Big, place) {
         Some(word) => word,
         None => 0,

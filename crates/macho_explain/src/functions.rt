@@ -11,6 +11,7 @@ ghost use Rattle.macho_explain.specs.Explained.{ExplainsIn};
 use crate::conflict::Conflict;
 use crate::explanation::Explanation;
 use crate::part::{Part, PartKind, index_of};
+use crate::section_item::{Item, section_item};
 use crate::segment::{SegmentWith, find_segment};
 use crate::sliced::Sliced;
 use crate::table::Bounded;
@@ -20,9 +21,7 @@ use macho_fields::header::loader::{
     LC_FUNCTION_STARTS,
 };
 use macho_fields::{Bytes, Span};
-use macho_image::Image;
 use macho_tables::data_in_code::{DataInCodeEntry, is_known_kind};
-use macho_tables::init_offsets::has_offsets;
 use macho_tables::numbers::read_uleb;
 
 // The byte at the place: no number begins there, or it is past the last one and not 0.
@@ -85,43 +84,28 @@ fn start_at(table: Bytes, base: u64, offset: u64) -> Option<(u64, u64)>
 }
 
 // The section with the offset at the place, which is cut; or the address to which the offset leads, and where the file
-// bytes end of the segment that has it.
+// bytes end of the segment that has it; or the offset alone, if no segment has the base.
 #[inline(never)]
 pub(crate) fn init_offset(sliced: &Sliced) -> Option<Explanation>
     ensures { ExplainsIn Rule.InitOffset sliced.now result }
 {
     let (at, _) = sliced.byte()?;
     let image = sliced.held.open()?;
-    let (section, bytes) = offsets_with(sliced, &image)?;
+    let item = section_item(sliced, &image, Item::InitOffset)?;
     let offset = Span {
         start: sliced.place,
         len: INIT_OFFSET_SIZE,
     };
-    if !offset.inside(&bytes) {
-        return Some(at.shows(Conflict::alone(section, bytes.len, INIT_OFFSET_SIZE)));
+    if !offset.inside(&item.bytes) {
+        let conflict = Conflict::alone(item.part, item.bytes.len, INIT_OFFSET_SIZE);
+        return Some(at.shows(conflict));
     }
-    let address = image
-        .base()?
-        .saturating_add(u64::from(sliced.word(sliced.place)));
-    Some(at.shows(start_conflict(sliced, section, address)))
-}
-
-// The section whose offsets of initializers have the place, and its bytes.
-fn offsets_with(sliced: &Sliced, image: &Image) -> Option<(Part, Span)> {
-    let mut index: u64 = 0;
-    for section in image.sections() {
-        let bytes = Span {
-            start: section.offset(),
-            len: section.size(),
-        };
-        if bytes.holds(sliced.place) && has_offsets(&section) {
-            let kind = PartKind::SectionBytes;
-            let part = sliced.described(kind, bytes, section.place(), index_of(index));
-            return Some((part, bytes));
-        }
-        index = index.saturating_add(1);
-    }
-    None
+    let word = u64::from(sliced.word(sliced.place));
+    let Some(base) = image.base() else {
+        return Some(at.shows(Conflict::alone(item.part, word, 0)));
+    };
+    let address = base.saturating_add(word);
+    Some(at.shows(start_conflict(sliced, item.part, address)))
 }
 
 // The byte at the place of a table whose last entry is cut, or the entry at the place.

@@ -1,6 +1,7 @@
 #![tactic(auto)]
 //! Why a file is refused: what is at the place of the verdict, and which parts and numbers conflict there.
 
+pub mod broken_law;
 mod chains;
 mod command;
 pub mod conflict;
@@ -13,6 +14,7 @@ mod functions;
 mod gaps;
 mod header;
 mod home;
+mod item;
 pub mod linked_law;
 mod numbers;
 pub mod part;
@@ -20,6 +22,7 @@ mod pointers;
 mod relocation;
 mod seal;
 mod section;
+mod section_item;
 mod segment;
 mod signature;
 mod sliced;

@@ -1,6 +1,6 @@
 //! The two numbers that a rule compares, which are not as it says.
 
-ghost use Rattle.std.specs.Prelude.{◌≡◌, IfSome, Some, None};
+ghost use Rattle.std.specs.Prelude.{◌≡◌, ◌≤◌, MatchOption, Some, None};
 ghost use Rattle.macho_explain.specs.Parts.{conflict_of};
 ghost use Rattle.macho_explain.specs.Signatures.{Differ, IsAbove, IsBelow};
 
@@ -24,7 +24,7 @@ impl Numbers {
 
     // Numbers that have to be the same, if they are not.
     pub(crate) fn differing(value: u64, limit: u64) -> Option<Numbers>
-        ensures { IfSome result (λ n. Differ n.value n.limit value limit) }
+        ensures { MatchOption result (value ≡ limit) (λ n. Differ n.value n.limit value limit) }
     {
         if value == limit {
             return None;
@@ -34,7 +34,7 @@ impl Numbers {
 
     // A number that may not be below the limit, if it is.
     pub(crate) fn below(value: u64, limit: u64) -> Option<Numbers>
-        ensures { IfSome result (λ n. IsBelow n.value n.limit value limit) }
+        ensures { MatchOption result (limit ≤ value) (λ n. IsBelow n.value n.limit value limit) }
     {
         if value >= limit {
             return None;
@@ -44,7 +44,7 @@ impl Numbers {
 
     // A number that may not be above the limit, if it is.
     pub(crate) fn above(value: u64, limit: u64) -> Option<Numbers>
-        ensures { IfSome result (λ n. IsAbove n.value n.limit value limit) }
+        ensures { MatchOption result (value ≤ limit) (λ n. IsAbove n.value n.limit value limit) }
     {
         if value <= limit {
             return None;

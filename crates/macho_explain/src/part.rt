@@ -1,6 +1,6 @@
 //! Parts of a file: a structure, or what a structure describes.
 
-ghost use Rattle.std.specs.Prelude.{◌≡◌, ◌-◌, ◌^◌, ◌<◌, min, IfSome};
+ghost use Rattle.std.specs.Prelude.{◌≡◌, ◌-◌, ◌%◌, ◌^◌, min, IfSome};
 ghost use Rattle.macho_explain.specs.Parts.{part_of};
 
 /// A part of a file. (`struct kesvuot_part`)
@@ -133,7 +133,7 @@ pub(crate) fn clamped(number: u128) -> u64
 
 // The number below 0 at this distance from it, as 64 bits.
 pub(crate) fn below_zero(distance: u64) -> u64
-    ensures { 0 < distance → result ≡ 2 ^ 64 - distance }
+    ensures { result ≡ (2 ^ 64 - distance) % 2 ^ 64 }
 {
     0u64.wrapping_sub(distance)
 }

@@ -1,35 +1,34 @@
 //! The rule of relocations. (`mach-o/reloc.h`: `relocation_info`)
 
-ghost use Rattle.std.specs.Prelude.{◌≡◌, IfSome};
-ghost use Rattle.macho_fields.specs.Bytes.{bytes_of};
+ghost use Rattle.std.specs.Prelude.{◌⊎◌, MatchOption};
 ghost use Rattle.macho_fields.specs.declared.rule.Rule.{Rule};
 ghost use Rattle.macho_explain.specs.Compared.{IsRelocationShown};
 ghost use Rattle.macho_explain.specs.Explained.{ExplainsIn};
+ghost use Rattle.macho_explain.specs.SectionItems.{HasDysymtabRelocation, HasSectionItem};
+ghost use Rattle.macho_explain.specs.declared.section_item.Item.TheVariants as Item;
 
 use crate::conflict::Conflict;
 use crate::explanation::Explanation;
+use crate::item::item_at;
 use crate::part::{Part, PartKind, index_of};
+use crate::section_item::{Item, SectionItem, section_item};
 use crate::sliced::Sliced;
-use crate::table::table_with;
-use crate::walk::{Sought, walk_to};
 use macho_fields::Span;
-use macho_fields::header::loader::LC_DYSYMTAB;
 use macho_fields::header::reloc::{POINTER_LENGTH, RELOCATION_INFO_SIZE};
 use macho_image::Image;
 use macho_symbols::reloc::Relocation;
 use macho_symbols::relocations::Named;
 
-// The indices of the external and the local relocations among the tables of `dysymtab_command`, and the one past
-// them.
+// The indices of the external and the local relocations among the tables of `dysymtab_command`.
 const EXTERNAL: u64 = 4;
 
-const PAST_LOCAL: u64 = 6;
+const LOCAL: u64 = 5;
 
-// A table of relocations, and where it begins.
+// A table of relocations, and which of them is at a place.
 #[derive(Clone, Copy)]
 struct Relocations {
     part: Part,
-    start: u64,
+    index: u64,
 }
 
 // The relocation that begins at the place.
@@ -38,63 +37,53 @@ pub(crate) fn relocation(sliced: &Sliced) -> Option<Explanation>
     ensures { ExplainsIn Rule.Relocation sliced.now result }
 {
     let image = sliced.held.open()?;
-    let table = match of_section(sliced, &image, sliced.place) {
-        Some(table) => table,
-        None => of_dysymtab(sliced, sliced.place)?,
-    };
     let whole = Span {
         start: sliced.place,
         len: RELOCATION_INFO_SIZE,
     };
-    let past = sliced.place.checked_sub(table.start)?;
-    if past % RELOCATION_INFO_SIZE != 0 || !sliced.held.bytes.contains(whole) {
+    if !sliced.held.bytes.contains(whole) {
         return None;
     }
-    let index = index_of(past / RELOCATION_INFO_SIZE);
+    let table = table_here(sliced, &image)?;
+    let index = index_of(table.index);
     let part = sliced.structure(PartKind::Relocation, sliced.place, whole.len, index);
     let relocation = Relocation::read(sliced.held.bytes, sliced.place);
     let conflict = relocation_conflict(&image, table.part, relocation);
     Some(sliced.at(part).shows(conflict))
 }
 
-// The relocations of a section that have the place.
-fn of_section(sliced: &Sliced, image: &Image, place: u64) -> Option<Relocations> {
-    let mut index: u64 = 0;
-    for section in image.sections() {
-        let span = Span {
-            start: section.reloff(),
-            len: section.nreloc().saturating_mul(RELOCATION_INFO_SIZE),
-        };
-        if span.holds(place) {
-            let part = sliced.described(
-                PartKind::Relocations,
-                span,
-                section.place(),
-                index_of(index),
-            );
-            return Some(Relocations {
-                part,
-                start: span.start,
-            });
-        }
-        index = index.saturating_add(1);
+// The table with the relocation at the place.
+fn table_here(sliced: &Sliced, image: &Image) -> Option<Relocations>
+    ensures { MatchOption result (¬ (HasSectionItem Item.Relocation image.now sliced.now.place
+        ⊎ HasDysymtabRelocation image.now sliced.now.place)) (λ found. Unit {0}) }
+{
+    match section_item(sliced, image, Item::Relocation) {
+        Some(SectionItem { part, index, .. }) => Some(Relocations { part, index }),
+        None => of_dysymtab(sliced, image),
     }
-    None
 }
 
-// Those of `LC_DYSYMTAB` that do.
-fn of_dysymtab(sliced: &Sliced, place: u64) -> Option<Relocations> {
-    let walked = walk_to(sliced.held.bytes, Sought::First(LC_DYSYMTAB))?;
-    for index in EXTERNAL..PAST_LOCAL {
-        let table = table_with(sliced, walked.load, index)?;
-        if table.span.holds(place) {
-            return Some(Relocations {
-                part: table.part,
-                start: table.span.start,
-            });
-        }
+// The table of `LC_DYSYMTAB` that has it.
+fn of_dysymtab(sliced: &Sliced, image: &Image) -> Option<Relocations>
+    ensures { MatchOption result (¬ HasDysymtabRelocation image.now sliced.now.place) (λ found. Unit {0}) }
+{
+    let dysymtab = image.dysymtab()?;
+    let (start, count) = (dysymtab.extreloff, dysymtab.nextrel);
+    if let Some(index) = item_at(start, RELOCATION_INFO_SIZE, count, sliced.place) {
+        let part = table_part(sliced, dysymtab.place, EXTERNAL, start, count);
+        return Some(Relocations { part, index });
     }
-    None
+    let (start, count) = (dysymtab.locreloff, dysymtab.nlocrel);
+    let index = item_at(start, RELOCATION_INFO_SIZE, count, sliced.place)?;
+    let part = table_part(sliced, dysymtab.place, LOCAL, start, count);
+    Some(Relocations { part, index })
+}
+
+// The table with this index of the command at a place, of so many relocations.
+fn table_part(sliced: &Sliced, command: u64, index: u64, start: u64, count: u64) -> Part {
+    let len = count.saturating_mul(RELOCATION_INFO_SIZE);
+    let span = Span { start, len };
+    sliced.described(PartKind::Table, span, command, index_of(index))
 }
 
 // What the relocation names, and how many of these there are; or its length, and that of a pointer.

@@ -1,12 +1,12 @@
 //! The rules of the sealed profile: of what in an image its code signature has the hashes. (`cs_blobs.h`:
 //! `CS_CodeDirectory`)
 
-ghost use Rattle.std.specs.Prelude.{◌≡◌, ◌+◌, ◌≤◌, ◌<◌, ℕ, length, IfSome, true};
+ghost use Rattle.std.specs.Prelude.{◌≡◌, ◌≢◌, ◌+◌, ◌≤◌, ◌<◌, ℕ, length, IfNone, IfSome, true};
 ghost use Rattle.macho_fields.specs.Bytes.{bytes_of};
 ghost use Rattle.macho_fields.specs.declared.rule.Rule.{Rule};
 ghost use Rattle.macho_sealed.specs.Specials.{is_special_slot as is_special_slot_of};
 ghost use Rattle.macho_signature.specs.CodeDirectories.{HasSlots};
-ghost use Rattle.macho_signature.specs.Superblobs.{blob_at, blob_end};
+ghost use Rattle.macho_signature.specs.Superblobs.{blob_at, blob_count, blob_end, AreGoodBlobs};
 ghost use Rattle.macho_explain.specs.Explained.{ExplainsIn};
 ghost use Rattle.macho_explain.specs.Seals.{IsDirectoryOf, IsHashed, IsHashShown, IsOtherShown, IsPageShown, IsSpecialShown, place_of};
 
@@ -22,7 +22,7 @@ use macho_fields::{Bytes, Span};
 use macho_sealed::digest::has_hash;
 use macho_sealed::pages::{code_slot, page_at};
 use macho_sealed::specials::{has_special_hash, is_special_slot, special_slot};
-use macho_signature::{Blob, CodeDirectory};
+use macho_signature::{Blob, CodeDirectory, Superblob};
 
 // How many code directories are looked at: no signature with another in each slot has more.
 const MOST_DIRECTORIES: u32 = 6;
@@ -67,8 +67,12 @@ pub(crate) fn directory_repeated(sliced: &Sliced) -> Option<Explanation>
 fn first_in_slot(signature: &Signature, slot: u32) -> Option<(u32, Blob)>
     ensures blob { IfSome result (λ found. found.1 ≡ blob_at (bytes_of signature.now.bytes) found.0) }
     ensures slot { IfSome result (λ found. found.1.slot ≡ slot) }
+    ensures none { IfNone result (AreGoodBlobs (bytes_of signature.now.bytes) → (j : ℕ)
+        → j < blob_count (bytes_of signature.now.bytes) → (blob_at (bytes_of signature.now.bytes) j).slot ≢ slot) }
+    ensures first { IfSome result (λ found. (j : ℕ) → j < found.0
+        → (blob_at (bytes_of signature.now.bytes) j).slot ≢ slot) }
 {
-    for index in 0..u32::MAX {
+    for index in 0..Superblob::read(signature.bytes)?.count {
         let blob = signature.placed_blob(index)?;
         if blob.slot == slot {
             return Some((index, blob));

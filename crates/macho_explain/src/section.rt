@@ -1,10 +1,11 @@
 //! The rules of sections. (`mach-o/loader.h`: `section_64`)
 
-ghost use Rattle.std.specs.Prelude.{◌≡◌, ℕ, ◌+◌, List, IfSome};
+ghost use Rattle.std.specs.Prelude.{◌≡◌, ℕ, ◌+◌, List, IfSome, MatchOption};
 ghost use Rattle.macho_fields.specs.Bytes.{bytes_of};
 ghost use Rattle.macho_fields.specs.declared.rule.Rule.{Rule};
+ghost use Rattle.macho_explain.specs.Commanded.{HasSection};
 ghost use Rattle.macho_explain.specs.Explained.{ExplainsIn, IsSpot};
-ghost use Rattle.macho_explain.specs.Explain.{IsWalked, IsSectionFound, IsSectionRow, IsSegmentRow};
+ghost use Rattle.macho_explain.specs.Explain.{IsNthSection, IsWalked, IsSectionFound, IsSectionRow, IsSegmentRow};
 ghost use Rattle.macho_explain.specs.declared.walk.Sought.TheVariants as sought;
 ghost use Rattle.macho_symbols.specs.Indirects.{stride as stride_of};
 
@@ -38,7 +39,10 @@ pub(crate) struct SectionAt {
 // The section of a command whose structure has the byte at a place.
 pub(crate) fn section_with(sliced: &Sliced, walked: &Walked, place: u64) -> Option<SectionAt>
     requires { IsWalked (bytes_of sliced.now.held.bytes) (sought.At place) walked.now }
-    ensures { IfSome result (IsSectionFound (bytes_of sliced.now.held.bytes) place) }
+    ensures found { MatchOption result
+        ((nth : ℕ) → ¬ IsNthSection (bytes_of sliced.now.held.bytes) walked.now.load.place nth place)
+        (IsSectionFound (bytes_of sliced.now.held.bytes) place) }
+    ensures segment { IfSome result (λ section. section.segment ≡ walked.now.load.place) }
 {
     let segment = walked.load.place;
     let first = segment + SEGMENT_COMMAND_64_SIZE;
@@ -82,7 +86,8 @@ pub(crate) fn section_spot(sliced: &Sliced, walked: &Walked, section: &SectionAt
 
 // The section whose structure begins at the place, and its segment.
 fn section_here(sliced: &Sliced) -> Option<(Spot, SectionAt, SegmentAt)>
-    ensures { IfSome result (λ found. IsSpot sliced.now found.0
+    ensures { MatchOption result (¬ HasSection (bytes_of sliced.now.held.bytes) sliced.now.place)
+        (λ found. IsSpot sliced.now found.0
         × IsSectionRow (bytes_of sliced.now.held.bytes) found.1 × (found.1.place ≡ sliced.now.place)
         × IsSegmentRow (bytes_of sliced.now.held.bytes) found.2) }
 {

@@ -1,11 +1,11 @@
 //! The rules of segments. (`mach-o/loader.h`: `segment_command_64`)
 
-ghost use Rattle.std.specs.Prelude.{◌≡◌, ◌↔◌, ◌<◌, IfSome, IsTrue, MatchOption};
+ghost use Rattle.std.specs.Prelude.{◌≡◌, ◌↔◌, ℕ, List, IsTrue, MatchOption};
 ghost use Rattle.macho_fields.specs.Bytes.{bytes_of};
 ghost use Rattle.macho_fields.specs.declared.rule.Rule.{Rule};
 ghost use Rattle.macho_explain.specs.Compared.{HasSegment};
 ghost use Rattle.macho_explain.specs.Explained.{ExplainsIn, IsSpot};
-ghost use Rattle.macho_explain.specs.Explain.{IsSegmentFound, IsSegmentRow, MayMeet, MeetsSegment, NoSegmentMeets};
+ghost use Rattle.macho_explain.specs.Explain.{IsSegmentFound, IsSegmentRow, MeetsSegment, NoSegmentMeets};
 
 use crate::command::command_here;
 use crate::conflict::{Conflict, shared};
@@ -90,8 +90,8 @@ fn segment_here(sliced: &Sliced) -> Option<(Spot, SegmentAt)>
 impl SegmentAt {
     // Whether the segment is the one that is sought.
     fn is_wanted(&self, wanted: SegmentWith) -> bool
-        ensures meets { IsTrue result → MeetsSegment wanted self.now }
-        ensures command { MayMeet wanted self.now.place → IsTrue result }
+        ensures { (image : List ℕ) → IsSegmentRow image self.now
+            → IsTrue result ↔ MeetsSegment image wanted self.now.place }
     {
         let row = &self.row;
         match wanted {

@@ -1,11 +1,12 @@
 //! The rules of code signatures. (`cs_blobs.h`: `CS_SuperBlob`, `CS_BlobIndex`, `CS_CodeDirectory`)
 
-ghost use Rattle.std.specs.Prelude.{◌≡◌, ◌+◌, ◌^◌, ◌≤◌, ◌<◌, ℕ, List, length, IfSome, IsSomeAnd, MatchOption, Some};
+ghost use Rattle.std.specs.Prelude.{◌≡◌, ◌≢◌, ◌+◌, ◌^◌, ◌≤◌, ◌<◌, ℕ, List, length, IfNone, IfSome, IsSomeAnd, MatchOption, Some};
 ghost use Rattle.macho_fields.specs.Bytes.{bytes_of};
 ghost use Rattle.macho_fields.specs.declared.rule.Rule.{Rule};
 ghost use Rattle.macho_signature.specs.CodeDirectories.{code_directory};
 ghost use Rattle.macho_signature.specs.Signature.{bytes_at};
-ghost use Rattle.macho_signature.specs.Superblobs.{big_word, blob_at, blob_count, blob_end, entry_offset as entry_offset_of, least_offset};
+ghost use Rattle.macho_signature.specs.Superblobs.{big_word, blob_at, blob_count, blob_end, entry_offset as entry_offset_of, least_offset, AreGoodBlobs, HasNoSuperblob, IsBadBlob};
+ghost use Rattle.macho_explain.specs.Blobs.{IsFirstBad, IsOtherLimit};
 ghost use Rattle.macho_explain.specs.Explained.{ExplainsIn, IsWithin};
 ghost use Rattle.macho_spans.specs.declared.span.Span.{Span};
 ghost use Rattle.macho_explain.specs.Wholes.{Opens};
@@ -14,6 +15,7 @@ ghost use Rattle.macho_explain.specs.Signatures.{Differ, IsBlobShown, IsSignatur
 use crate::conflict::Conflict;
 use crate::directory::bad_directory;
 use crate::explanation::Explanation;
+use crate::item::short_item_at;
 use crate::numbers::Numbers;
 use crate::part::{Part, PartKind};
 use crate::sliced::Sliced;
@@ -101,34 +103,36 @@ pub(crate) enum Within {
 
 // What is at the place.
 pub(crate) fn place_in(sliced: &Sliced, signature: &Signature) -> Option<Within>
-    ensures { IfSome result (IsWithin sliced.now
-        signature.now.table.span.start) }
+    ensures { MatchOption result ((sliced.now.place ≢ signature.now.table.span.start)
+        × ((k : ℕ) → k < blob_count (bytes_of signature.now.bytes) → 12 ≤ length (bytes_of signature.now.bytes)
+        → sliced.now.place ≢ signature.now.table.span.start + entry_offset_of k))
+        (IsWithin sliced.now signature.now.table.span.start) }
 {
     let offset = sliced.place.checked_sub(signature.table.span.start)?;
     if offset == 0 {
         let part = sliced.structure(PartKind::Byte, sliced.place, 1, None);
         return Some(Within::Start(sliced.at(part)));
     }
-    let index = index_at(offset)?;
+    let index = index_at(signature.bytes, offset)?;
     let size = CS_BLOB_INDEX_SIZE;
     let part = sliced.structure(PartKind::SignatureEntry, sliced.place, size, Some(index));
     Some(Within::Entry(sliced.at(part), index))
 }
 
 // The index of the entry at an offset of a signature.
-pub(crate) fn index_at(offset: u64) -> Option<u32>
-    ensures { IfSome result (λ index. offset ≡ entry_offset_of index) }
+fn index_at(signature: Bytes, offset: u64) -> Option<u32>
+    ensures { MatchOption result ((k : ℕ) → k < blob_count (bytes_of signature.entry)
+        → 12 ≤ length (bytes_of signature.entry) → offset ≢ entry_offset_of k)
+        (λ index. offset ≡ entry_offset_of index) }
 {
-    let past = offset.checked_sub(CS_SUPER_BLOB_SIZE)?;
-    if past % CS_BLOB_INDEX_SIZE != 0 {
-        return None;
-    }
-    u32::try_from(past / CS_BLOB_INDEX_SIZE).ok()
+    let count = word(signature, COUNT)?;
+    short_item_at(CS_SUPER_BLOB_SIZE, CS_BLOB_INDEX_SIZE, count, offset)
 }
 
 // Why a signature has no superblob: its size, its magic number, or where the superblob ends, or its index.
 fn superblob_numbers(signature: Bytes) -> Option<Numbers>
-    ensures { IfSome result (λ n. IsSuperblobShown (bytes_of signature.entry) n.value n.limit) }
+    ensures { MatchOption result (¬ HasNoSuperblob (bytes_of signature.entry))
+        (λ n. IsSuperblobShown (bytes_of signature.entry) n.value n.limit) }
 {
     let size = signature.len();
     if size < CS_SUPER_BLOB_SIZE {
@@ -147,7 +151,9 @@ fn superblob_numbers(signature: Bytes) -> Option<Numbers>
 
 // Why a blob is misplaced: where it begins or ends, or its size.
 fn misplaced_blob(sliced: &Sliced, signature: &Signature, index: u32) -> Option<Conflict>
-    ensures { IfSome result (λ c. IsBlobShown (bytes_of signature.now.bytes) index c.value c.limit) }
+    ensures { MatchOption result (¬ ((¬ HasNoSuperblob (bytes_of signature.now.bytes))
+        × (index < blob_count (bytes_of signature.now.bytes)) × IsFirstBad (bytes_of signature.now.bytes) index))
+        (λ c. IsBlobShown (bytes_of signature.now.bytes) index c.value c.limit) }
 {
     let superblob = Superblob::read(signature.bytes)?;
     let whole = u64::from(superblob.length);
@@ -177,7 +183,8 @@ fn misplaced_blob(sliced: &Sliced, signature: &Signature, index: u32) -> Option<
 // `whole`, the size of these alone.
 fn length_at(signature: Bytes, offset: u64, whole: u64) -> Option<u32>
     requires { offset < 2 ^ 32 }
-    ensures { IfSome result (λ length. offset + 8 ≤ whole → length ≡ big_word (bytes_of signature.entry) (offset + 4)) }
+    ensures { MatchOption result ((offset + 8 ≤ whole) × (length (bytes_of signature.entry) < offset + 8))
+        (λ length. offset + 8 ≤ whole → length ≡ big_word (bytes_of signature.entry) (offset + 4)) }
 {
     if offset + CS_GENERIC_BLOB_SIZE <= whole {
         word(signature, offset + LENGTH)
@@ -188,7 +195,10 @@ fn length_at(signature: Bytes, offset: u64, whole: u64) -> Option<u32>
 
 // What is before the blob of an entry, and where it ends: the blob of the entry before it, or the index.
 fn what_is_before(sliced: &Sliced, signature: &Signature, index: u32) -> Option<(Part, u64)>
-    ensures { IfSome result (λ before. before.1 ≡ least_offset (bytes_of signature.now.bytes) index) }
+    ensures { MatchOption result (¬ ((¬ HasNoSuperblob (bytes_of signature.now.bytes))
+        × (index < blob_count (bytes_of signature.now.bytes))
+        × ((j : ℕ) → j < index → ¬ IsBadBlob (bytes_of signature.now.bytes) j)))
+        (λ before. before.1 ≡ least_offset (bytes_of signature.now.bytes) index) }
 {
     let Some(earlier) = index.checked_sub(1) else {
         let count = word(signature.bytes, COUNT)?;
@@ -201,7 +211,10 @@ fn what_is_before(sliced: &Sliced, signature: &Signature, index: u32) -> Option<
 
 // Up to where a code directory covers the image, and where the signature begins.
 fn other_limit(sliced: &Sliced, signature: &Signature, index: u32) -> Option<Conflict>
-    ensures { IfSome result (λ c. IsSomeAnd (code_directory (bytes_at (bytes_of signature.now.bytes) index))
+    ensures { MatchOption result (¬ (AreGoodBlobs (bytes_of signature.now.bytes)
+        × (index < blob_count (bytes_of signature.now.bytes))
+        × IsOtherLimit signature.now.table.span.start (bytes_of signature.now.bytes) index))
+        (λ c. IsSomeAnd (code_directory (bytes_at (bytes_of signature.now.bytes) index))
         (λ directory. Differ c.value c.limit directory.limit signature.now.table.span.start)) }
 {
     let blob = signature.placed_blob(index)?;
@@ -220,6 +233,9 @@ impl<'a> Signature<'a> {
         ensures blob { IfSome result (λ blob. blob ≡ blob_at (bytes_of self.now.bytes) index) }
         ensures inside { IfSome result (λ blob. blob_end blob ≤ length (bytes_of self.now.bytes)) }
         ensures listed { IfSome result (λ blob. index < blob_count (bytes_of self.now.bytes)) }
+        ensures none { IfNone result (¬ ((¬ HasNoSuperblob (bytes_of self.now.bytes))
+            × (index < blob_count (bytes_of self.now.bytes))
+            × ((j : ℕ) → j ≤ index → ¬ IsBadBlob (bytes_of self.now.bytes) j))) }
     {
         let superblob = Superblob::read(self.bytes)?;
         if index >= superblob.count {
@@ -249,7 +265,8 @@ impl<'a> Signature<'a> {
 
 // The number of 32 bits at an offset.
 pub(crate) fn word(bytes: Bytes, offset: u64) -> Option<u32>
-    ensures { IfSome result (λ word. word ≡ big_word (bytes_of bytes.entry) offset) }
+    ensures { MatchOption result (length (bytes_of bytes.entry) < offset + 4)
+        (λ word. word ≡ big_word (bytes_of bytes.entry) offset) }
 {
     bytes.u32_at(Order::Big, offset)
 }

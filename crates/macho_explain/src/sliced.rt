@@ -1,18 +1,19 @@
 //! The image that has the place of a refusal: which slice of the file it is, and its parts.
 
-ghost use Rattle.std.specs.Prelude.{◌≡◌, ◌+◌, ◌≤◌, slice_get, Some, MatchOption, IfSome};
+ghost use Rattle.std.specs.Prelude.{◌≡◌, ℕ, ◌+◌, slice_get, Some, MatchOption, IfSome};
 ghost use Rattle.macho_fields.specs.Bytes.{bytes_of};
 ghost use Rattle.macho_fields.specs.Universal.{slices_of};
 ghost use Rattle.macho_fat.specs.Slices.{slice_of};
 ghost use Rattle.macho_spans.specs.Span.{Holds};
 ghost use Rattle.macho_explain.specs.Compared.{HasByte};
-ghost use Rattle.macho_explain.specs.Explained.{IsImageOf, IsSpot};
+ghost use Rattle.macho_explain.specs.Explained.{IsImageFound, IsSpot};
+ghost use Rattle.macho_explain.specs.FirstSlices.{HasImageWith, HasSlices, IsByteOf, IsFirstWith};
 ghost use Rattle.macho_explain.specs.Explain.{word_at, long_at};
 ghost use Rattle.macho_explain.specs.Parts.{part_of, place_in_file, conflict_of, spot_of};
 ghost use Rattle.macho_explain.specs.declared.part.PartKind.{PartKind};
 
 use crate::conflict::Conflict;
-use crate::entries::slice_part;
+use crate::entries::{slice_count, slice_part};
 use crate::part::{Part, PartKind, structure};
 use crate::segment::SegmentAt;
 use crate::spot::Spot;
@@ -35,8 +36,7 @@ pub(crate) struct Sliced<'a> {
 
 // The image in the first 64-bit slice that has the byte by which a rule is broken at the place.
 pub(crate) fn image_with(file: &[u8], rule: Rule, place: u64) -> Option<Sliced>
-    ensures { IfSome result (λ sliced.
-        IsImageOf file.now place sliced.index (bytes_of sliced.held.bytes) sliced.place) }
+    ensures { IsImageFound rule file.now place result }
 {
     let bytes = Bytes::new(file);
     let (index, slice) = slice_with(bytes, byte_of(rule, place)?)?;
@@ -50,22 +50,26 @@ pub(crate) fn image_with(file: &[u8], rule: Rule, place: u64) -> Option<Sliced>
     })
 }
 
-// A byte of the image that breaks a rule at a place. A walk over commands, and an export trie, can end just past
-// the image.
+// The byte that breaks a rule at a place. A walk over commands, and an export trie, can end just past the image.
 fn byte_of(rule: Rule, place: u64) -> Option<u64>
-    ensures { IfSome result (λ byte. (byte ≤ place) × (place ≤ byte + 1)) }
+    ensures { MatchOption result ((byte : ℕ) → ¬ IsByteOf rule place byte) (IsByteOf rule place) }
 {
-    let is_past = rule == Rule::CommandWalk || rule == Rule::ExportNode;
-    place.checked_sub(u64::from(is_past))
+    match rule {
+        Rule::CommandWalk | Rule::ExportNode => place.checked_sub(1),
+        _ => Some(place),
+    }
 }
 
 // The first 64-bit slice that has the byte at a place, and its index.
 fn slice_with(file: Bytes, place: u64) -> Option<(u32, Slice)>
+    ensures first { MatchOption result
+        (HasSlices (bytes_of file.entry) → (k : ℕ) → ¬ HasImageWith (bytes_of file.entry) place k)
+        (λ found. IsFirstWith (bytes_of file.entry) place found.0) }
     ensures listed { IfSome result (λ found.
         slice_get (slices_of (bytes_of file.entry)) found.0 ≡ Some (slice_of found.1)) }
     ensures holds { IfSome result (λ found. Holds found.1.span place) }
 {
-    for index in 0..u32::MAX {
+    for index in 0..slice_count(file) {
         let Ok(Some(slice)) = slice_at(file, u64::from(index)) else {
             return None;
         };

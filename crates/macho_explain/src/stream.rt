@@ -1,12 +1,13 @@
 //! The rules of the streams of opcodes that a dynamic loader follows. (`mach-o/loader.h`:
 //! `dyld_info_command`)
 
-ghost use Rattle.std.specs.Prelude.{◌≡◌, ◌≤◌, ◌⊎◌, length, IfSome};
-ghost use Rattle.macho_spans.specs.Span.{end_of};
+ghost use Rattle.std.specs.Prelude.{◌≡◌, ◌⊎◌, List, slice_get, MatchOption, None, Some};
 ghost use Rattle.macho_fields.specs.Bytes.{bytes_of};
 ghost use Rattle.macho_fields.specs.declared.rule.Rule.{Rule};
-ghost use Rattle.macho_explain.specs.Compared.{IsFileSize};
+ghost use Rattle.macho_opcodes.specs.declared.step.Step.{Step};
 ghost use Rattle.macho_explain.specs.Explained.{ExplainsIn, IsSpot};
+ghost use Rattle.macho_explain.specs.Streams.{Asks, HasOpcode, HasStep, IsFileSize, IsOpcodeAt, IsOpcodeHere, IsReached, IsPast, OfBinds, Shows, ShowsStep, ordinal_of, stream_table as stream_table_of};
+ghost use Rattle.macho_explain.specs.Wholes.{Opens};
 
 use crate::conflict::Conflict;
 use crate::explanation::Explanation;
@@ -14,15 +15,17 @@ use crate::part::{PartKind, below_zero, clamped};
 use crate::segment::{SegmentWith, find_segment};
 use crate::sliced::Sliced;
 use crate::spot::Spot;
-use crate::table::{Bounded, table_with};
-use crate::walk::{Sought, walk_to};
+use crate::table::Bounded;
+use crate::whole::{Whole, bounded, read_whole};
 use macho_fields::Bytes;
-use macho_fields::header::loader::{LC_DYLD_INFO, LC_DYLD_INFO_ONLY};
+use macho_image::Image;
 use macho_opcodes::cursor::Cursor;
 use macho_opcodes::step::{Opcodes, Step, step_at};
 use macho_opcodes::stream::Limits;
-use macho_rows::load::Load;
+use macho_opcodes::streams::Stream;
+use macho_tables::homes::span_of;
 use macho_tables::limits::POINTER_SIZE;
+use macho_tables::place::dyld_info;
 use macho_tables::segment::is_writable;
 
 // The greatest byte of an opcode of the rebases, and of the binds.
@@ -30,15 +33,19 @@ const LAST_REBASE: u64 = 0x8f;
 
 const LAST_BIND: u64 = 0xcf;
 
-// How many tables of `dyld_info_command` are streams: rebases, binds, weak binds, lazy binds.
-const STREAMS: u64 = 4;
-
-// A stream that has a place.
+// What a rule asks of an opcode that is known.
 #[derive(Clone, Copy)]
-struct Stream<'a> {
-    opcodes: Opcodes,
-    bytes: Bytes<'a>,
-    table: Bounded,
+pub(crate) enum Asked {
+    // The library that it sets.
+    Library,
+    // How much it writes without a name.
+    Symbol,
+    // Where it writes.
+    Slot,
+    // How much is written up to and including it.
+    Total,
+    // How many bytes of names are looked up up to and including it.
+    Names,
 }
 
 // An opcode of a stream, and what those before it have set, written and looked up.
@@ -48,90 +55,77 @@ struct Reached {
     written: u128,
     named: u128,
     // What it says, if that is known, and where the next one begins.
-    step: Option<Step>,
-    next: u64,
+    found: Option<(Step, u64)>,
 }
 
-// An opcode at the place, and the stream that has it.
+// The stream that has the place, and the opcode there.
 #[derive(Clone, Copy)]
 struct OpcodeHere<'a> {
-    at: Spot,
-    stream: Stream<'a>,
+    table: Bounded,
+    bytes: Bytes<'a>,
+    offset: u64,
     reached: Reached,
 }
 
-// The opcode at the place.
-fn opcode_here<'a>(sliced: &Sliced<'a>) -> Option<OpcodeHere<'a>>
-    ensures spot { IfSome result (λ here. IsSpot sliced.now here.at) }
-    ensures inside { IfSome result (λ here.
-        end_of here.stream.table.span ≤ length (bytes_of sliced.now.held.bytes)) }
+// The table of a stream.
+fn stream_table(sliced: &Sliced, stream: Stream) -> Option<Bounded>
+    ensures { MatchOption result
+        (Opens (bytes_of sliced.now.held.bytes) → stream_table_of stream (bytes_of sliced.now.held.bytes) ≡ None)
+        (λ found. stream_table_of stream (bytes_of sliced.now.held.bytes) ≡ Some found.span) }
 {
-    let stream = stream_with(sliced, sliced.place)?;
-    let offset = sliced.place.checked_sub(stream.table.span.start)?;
-    let reached = reach_opcode(&stream, offset)?;
-    let size = reached.next.saturating_sub(offset);
-    let part = sliced.structure(PartKind::Opcode, sliced.place, size, None);
+    let image = sliced.held.open()?;
+    let command = dyld_info(&image)?;
+    let span = span_of(&image, command, stream.fields());
+    Some(bounded(sliced, command, span, number_of(stream)))
+}
+
+// Which of the tables of `dyld_info_command` a stream is.
+fn number_of(stream: Stream) -> u64 {
+    match stream {
+        Stream::Rebase => 0,
+        Stream::Bind => 1,
+        Stream::WeakBind => 2,
+        Stream::LazyBind => 3,
+    }
+}
+
+// The opcode of a stream at the place.
+fn opcode_here<'a>(sliced: &Sliced<'a>, stream: Stream) -> Option<OpcodeHere<'a>>
+    ensures { MatchOption result
+        (¬ (Opens (bytes_of sliced.now.held.bytes) × HasOpcode stream (bytes_of sliced.now.held.bytes) sliced.now.place))
+        (IsOpcodeHere stream (bytes_of sliced.now.held.bytes) sliced.now.place) }
+{
+    let Whole { table, bytes } = read_whole(sliced, stream_table(sliced, stream)?)?;
+    let offset = sliced.place.checked_sub(table.span.start)?;
+    let reached = reach_opcode(stream.opcodes(), bytes, offset)?;
     Some(OpcodeHere {
-        at: sliced.at(part),
-        stream,
+        table,
+        bytes,
+        offset,
         reached,
     })
 }
 
-// The first stream that has the place.
-fn stream_with<'a>(sliced: &Sliced<'a>, place: u64) -> Option<Stream<'a>>
-    ensures { IfSome result (λ stream.
-        end_of stream.table.span ≤ length (bytes_of sliced.now.held.bytes)) }
-{
-    let load = dyld_info(sliced)?;
-    for index in 0..STREAMS {
-        let table = table_with(sliced, load, index)?;
-        if table.span.holds(place)
-            && let Some(bytes) = sliced.held.bytes.part(table.span)
-        {
-            return Some(Stream {
-                opcodes: opcodes_of(index),
-                bytes: Bytes::new(bytes),
-                table,
-            });
-        }
-    }
-    None
-}
-
-// The command that names the streams, and the exports.
-pub(crate) fn dyld_info(sliced: &Sliced) -> Option<Load> {
-    let bytes = sliced.held.bytes;
-    match walk_to(bytes, Sought::First(LC_DYLD_INFO_ONLY)) {
-        Some(walked) => Some(walked.load),
-        None => Some(walk_to(bytes, Sought::First(LC_DYLD_INFO))?.load),
-    }
-}
-
-// What the opcodes of a stream are, by its number among the tables of the command.
-fn opcodes_of(index: u64) -> Opcodes {
-    match index {
-        0 => Opcodes::Rebase,
-        3 => Opcodes::LazyBind,
-        _ => Opcodes::Bind,
-    }
-}
-
 // The opcode at an offset of a stream.
-fn reach_opcode(stream: &Stream, offset: u64) -> Option<Reached> {
+fn reach_opcode(opcodes: Opcodes, stream: Bytes, offset: u64) -> Option<Reached>
+    ensures { MatchOption result (¬ IsOpcodeAt opcodes (bytes_of stream.entry) offset)
+        (IsReached opcodes (bytes_of stream.entry) offset) }
+{
     let mut cursor = Cursor::new();
     let mut written: u128 = 0;
     let mut named: u128 = 0;
     let mut place = 0;
-    while place < stream.bytes.len() {
-        let found = step_at(stream.opcodes, stream.bytes, place);
+    while place < stream.len() {
+        let found = step_at(opcodes, stream, place);
         if place == offset {
-            return Some(reached_at(place, cursor, written, named, found));
+            return Some(Reached {
+                cursor,
+                written,
+                named,
+                found,
+            });
         }
         let (step, next) = found?;
-        if next <= place {
-            return None;
-        }
         written = written.saturating_add(u128::from(step.writes()));
         named = named.saturating_add(u128::from(cursor.looks_up(step)));
         cursor.follow(step);
@@ -140,25 +134,63 @@ fn reach_opcode(stream: &Stream, offset: u64) -> Option<Reached> {
     None
 }
 
-// The opcode that is reached at a place. It is one byte if it is not known.
-fn reached_at(
-    place: u64,
-    cursor: Cursor,
-    written: u128,
-    named: u128,
-    found: Option<(Step, u64)>,
-) -> Reached {
-    let (step, next) = match found {
-        Some((step, next)) => (Some(step), next),
-        None => (None, place.saturating_add(1)),
-    };
-    Reached {
-        cursor,
-        written,
-        named,
-        step,
-        next,
+impl OpcodeHere<'_> {
+    // The opcode as a part, up to an offset of its stream.
+    fn spot(&self, sliced: &Sliced, next: u64) -> Spot
+        ensures { IsSpot sliced.now result }
+    {
+        let size = next.saturating_sub(self.offset);
+        sliced.at(sliced.structure(PartKind::Opcode, sliced.place, size, None))
     }
+}
+
+// The byte of an opcode of a stream, and the greatest one. An opcode that is not known is one byte.
+fn opcode_byte(sliced: &Sliced, stream: Stream, greatest: u64) -> Option<Explanation>
+    ensures { MatchOption result
+        (¬ (Opens (bytes_of sliced.now.held.bytes) × HasOpcode stream (bytes_of sliced.now.held.bytes) sliced.now.place))
+        (λ e. IsSpot sliced.now e.at
+        × (slice_get (bytes_of sliced.now.held.bytes) sliced.now.place ≡ Some e.conflict.value)
+        × (e.conflict.limit ≡ greatest)) }
+{
+    let here = opcode_here(sliced, stream)?;
+    let (_, byte) = sliced.byte()?;
+    let next = match here.reached.found {
+        Some((_, next)) => next,
+        None => here.offset.saturating_add(1),
+    };
+    let conflict = Conflict::alone(here.table.part, byte, greatest);
+    Some(here.spot(sliced, next).shows(conflict))
+}
+
+// The opcode of a stream at the place, and what is asked of it.
+fn step_of(sliced: &Sliced, stream: Stream, asked: Asked) -> Option<Explanation>
+    ensures { MatchOption result
+        (¬ (Opens (bytes_of sliced.now.held.bytes)
+        × HasStep asked stream (bytes_of sliced.now.held.bytes) sliced.now.place))
+        (λ e. IsSpot sliced.now e.at
+        × ShowsStep asked stream (bytes_of sliced.now.held.bytes) sliced.now.place e.conflict) }
+{
+    let here = opcode_here(sliced, stream)?;
+    let (step, next) = here.reached.found?;
+    let conflict = numbers(sliced, &here, step, asked)?;
+    Some(here.spot(sliced, next).shows(conflict))
+}
+
+// The same of the first of the bind, the weak and the lazy stream that has it.
+fn step_of_binds(sliced: &Sliced, asked: Asked) -> Option<Explanation>
+    ensures { MatchOption result
+        (¬ (Opens (bytes_of sliced.now.held.bytes)
+        × OfBinds (λ stream. HasStep asked stream (bytes_of sliced.now.held.bytes) sliced.now.place)))
+        (λ e. IsSpot sliced.now e.at
+        × OfBinds (λ stream. ShowsStep asked stream (bytes_of sliced.now.held.bytes) sliced.now.place e.conflict)) }
+{
+    if let Some(found) = step_of(sliced, Stream::Bind, asked) {
+        return Some(found);
+    }
+    if let Some(found) = step_of(sliced, Stream::WeakBind, asked) {
+        return Some(found);
+    }
+    step_of(sliced, Stream::LazyBind, asked)
 }
 
 // The byte of an opcode of the rebases, and the greatest one.
@@ -166,12 +198,7 @@ fn reached_at(
 pub(crate) fn rebase_opcode(sliced: &Sliced) -> Option<Explanation>
     ensures { ExplainsIn Rule.RebaseOpcode sliced.now result }
 {
-    let here = opcode_here(sliced)?;
-    let (_, byte) = sliced.byte()?;
-    Some(
-        here.at
-            .shows(Conflict::alone(here.stream.table.part, byte, LAST_REBASE)),
-    )
+    opcode_byte(sliced, Stream::Rebase, LAST_REBASE)
 }
 
 // The byte of an opcode of the binds, and the greatest one.
@@ -179,12 +206,13 @@ pub(crate) fn rebase_opcode(sliced: &Sliced) -> Option<Explanation>
 pub(crate) fn bind_opcode(sliced: &Sliced) -> Option<Explanation>
     ensures { ExplainsIn Rule.BindOpcode sliced.now result }
 {
-    let here = opcode_here(sliced)?;
-    let (_, byte) = sliced.byte()?;
-    Some(
-        here.at
-            .shows(Conflict::alone(here.stream.table.part, byte, LAST_BIND)),
-    )
+    if let Some(found) = opcode_byte(sliced, Stream::Bind, LAST_BIND) {
+        return Some(found);
+    }
+    if let Some(found) = opcode_byte(sliced, Stream::WeakBind, LAST_BIND) {
+        return Some(found);
+    }
+    opcode_byte(sliced, Stream::LazyBind, LAST_BIND)
 }
 
 // Where the last slot of the rebases ends, and how many bytes can be written.
@@ -192,8 +220,7 @@ pub(crate) fn bind_opcode(sliced: &Sliced) -> Option<Explanation>
 pub(crate) fn rebase_slot(sliced: &Sliced) -> Option<Explanation>
     ensures { ExplainsIn Rule.RebaseSlot sliced.now result }
 {
-    let here = opcode_here(sliced)?;
-    Some(here.at.shows(slots(sliced, &here)?))
+    step_of(sliced, Stream::Rebase, Asked::Slot)
 }
 
 // The same of the binds.
@@ -201,8 +228,7 @@ pub(crate) fn rebase_slot(sliced: &Sliced) -> Option<Explanation>
 pub(crate) fn bind_slot(sliced: &Sliced) -> Option<Explanation>
     ensures { ExplainsIn Rule.BindSlot sliced.now result }
 {
-    let here = opcode_here(sliced)?;
-    Some(here.at.shows(slots(sliced, &here)?))
+    step_of_binds(sliced, Asked::Slot)
 }
 
 // How many rebases there are up to and including the opcode, and pointers that can be written.
@@ -210,13 +236,7 @@ pub(crate) fn bind_slot(sliced: &Sliced) -> Option<Explanation>
 pub(crate) fn rebase_total(sliced: &Sliced) -> Option<Explanation>
     ensures { ExplainsIn Rule.RebaseTotal sliced.now result }
 {
-    let here = opcode_here(sliced)?;
-    let budget = clamped(Limits::of(&sliced.held.open()?).budget);
-    let count = written_with(&here.reached)?;
-    Some(
-        here.at
-            .shows(Conflict::alone(here.stream.table.part, count, budget)),
-    )
+    step_of(sliced, Stream::Rebase, Asked::Total)
 }
 
 // The same of the binds of a stream.
@@ -224,13 +244,7 @@ pub(crate) fn rebase_total(sliced: &Sliced) -> Option<Explanation>
 pub(crate) fn bind_total(sliced: &Sliced) -> Option<Explanation>
     ensures { ExplainsIn Rule.BindTotal sliced.now result }
 {
-    let here = opcode_here(sliced)?;
-    let budget = clamped(Limits::of(&sliced.held.open()?).budget);
-    let count = written_with(&here.reached)?;
-    Some(
-        here.at
-            .shows(Conflict::alone(here.stream.table.part, count, budget)),
-    )
+    step_of_binds(sliced, Asked::Total)
 }
 
 // The ordinal that an opcode sets, and how many libraries there are.
@@ -238,10 +252,7 @@ pub(crate) fn bind_total(sliced: &Sliced) -> Option<Explanation>
 pub(crate) fn bind_library(sliced: &Sliced) -> Option<Explanation>
     ensures { ExplainsIn Rule.BindLibrary sliced.now result }
 {
-    let here = opcode_here(sliced)?;
-    let libraries = Limits::of(&sliced.held.open()?).libraries;
-    let ordinal = ordinal(here.reached.step?)?;
-    Some(here.at.shows(Conflict::alone(here.stream.table.part, ordinal, libraries)))
+    step_of_binds(sliced, Asked::Library)
 }
 
 // How many binds have no name.
@@ -249,12 +260,7 @@ pub(crate) fn bind_library(sliced: &Sliced) -> Option<Explanation>
 pub(crate) fn bind_symbol(sliced: &Sliced) -> Option<Explanation>
     ensures { ExplainsIn Rule.BindSymbol sliced.now result }
 {
-    let here = opcode_here(sliced)?;
-    let count = here.reached.step?.writes();
-    Some(
-        here.at
-            .shows(Conflict::alone(here.stream.table.part, count, 0)),
-    )
+    step_of_binds(sliced, Asked::Symbol)
 }
 
 // How many bytes of names were looked up, and how many the stream has.
@@ -262,29 +268,38 @@ pub(crate) fn bind_symbol(sliced: &Sliced) -> Option<Explanation>
 pub(crate) fn bind_names(sliced: &Sliced) -> Option<Explanation>
     ensures { ExplainsIn Rule.BindNames sliced.now result }
 {
-    let here = opcode_here(sliced)?;
-    let names = named_with(&here.reached)?;
-    let len = here.stream.table.span.len;
-    Some(
-        here.at
-            .shows(Conflict::alone(here.stream.table.part, names, len)),
-    )
+    step_of_binds(sliced, Asked::Names)
 }
 
-// How many pointers were written up to and including an opcode.
-fn written_with(reached: &Reached) -> Option<u64> {
-    let own = u128::from(reached.step?.writes());
-    Some(clamped(reached.written.saturating_add(own)))
-}
-
-// How many bytes of names were looked up up to and including an opcode.
-fn named_with(reached: &Reached) -> Option<u64> {
-    let own = u128::from(reached.cursor.looks_up(reached.step?));
-    Some(clamped(reached.named.saturating_add(own)))
+// The numbers that are asked of a known opcode.
+fn numbers(sliced: &Sliced, here: &OpcodeHere, step: Step, asked: Asked) -> Option<Conflict>
+    ensures { MatchOption result (¬ (Opens (bytes_of sliced.now.held.bytes) × Asks asked step))
+        (λ c. (before : List Step) → IsPast before here.now.reached → Shows asked (bytes_of sliced.now.held.bytes)
+        (bytes_of here.now.bytes) before step c) }
+{
+    let (table, reached) = (here.table.part, here.reached);
+    let image = sliced.held.open()?;
+    let limits = Limits::of(&image);
+    match asked {
+        Asked::Library => Some(Conflict::alone(table, ordinal(step)?, limits.libraries)),
+        Asked::Symbol => Some(Conflict::alone(table, step.writes(), 0)),
+        Asked::Slot => Some(slots(sliced, &image, here, step)),
+        Asked::Total => {
+            let count = reached.written.saturating_add(u128::from(step.writes()));
+            Some(Conflict::alone(table, clamped(count), clamped(limits.budget)))
+        }
+        Asked::Names => {
+            let own = u128::from(reached.cursor.looks_up(step));
+            let size = clamped(reached.named.saturating_add(own));
+            Some(Conflict::alone(table, size, here.bytes.len()))
+        }
+    }
 }
 
 // The ordinal that an opcode sets; one below 0 as 64 bits.
-fn ordinal(step: Step) -> Option<u64> {
+fn ordinal(step: Step) -> Option<u64>
+    ensures { result ≡ ordinal_of step }
+{
     match step {
         Step::SetLibrary(ordinal) => Some(ordinal),
         Step::SetSpecial(below) => Some(below_zero(u64::from(below))),
@@ -293,24 +308,25 @@ fn ordinal(step: Step) -> Option<u64> {
 }
 
 // The segment that is set, where the last slot ends in it, and how many of its bytes can be written.
-fn slots(sliced: &Sliced, here: &OpcodeHere) -> Option<Conflict>
-    ensures { IfSome result (λ c. (c.limit ≡ 0) ⊎ IsFileSize (bytes_of sliced.now.held.bytes) c.limit) }
+fn slots(sliced: &Sliced, image: &Image, here: &OpcodeHere, step: Step) -> Conflict
+    ensures { (result.limit ≡ 0) ⊎ IsFileSize (bytes_of sliced.now.held.bytes) result.limit }
 {
-    let (table, cursor) = (here.stream.table.part, here.reached.cursor);
-    let end = slots_end(cursor, here.reached.step?);
-    let image = sliced.held.open()?;
+    let (table, cursor) = (here.table.part, here.reached.cursor);
+    let end = slots_end(cursor, step);
     let Some(number) = cursor.segment else {
-        return Some(Conflict::alone(table, end, 0));
+        return Conflict::alone(table, end, 0);
     };
     let Some(segment) = image.segments().nth(usize::from(number)) else {
-        return Some(Conflict::alone(table, end, 0));
+        return Conflict::alone(table, end, 0);
     };
-    let found = find_segment(sliced, SegmentWith::Command(segment.place()))?;
+    let Some(found) = find_segment(sliced, SegmentWith::Command(segment.place())) else {
+        return Conflict::alone(table, end, 0);
+    };
     let part = sliced.segment(&found);
     if !is_writable(&segment) {
-        return Some(Conflict::of(table, part, end, 0));
+        return Conflict::of(table, part, end, 0);
     }
-    Some(Conflict::of(table, part, end, found.row.filesize))
+    Conflict::of(table, part, end, found.row.filesize)
 }
 
 // Where the last slot of an opcode ends, as an offset in the segment.

@@ -1,11 +1,13 @@
 //! The rules of symbols and of indirect entries. (`mach-o/nlist.h`: `nlist_64`)
 
-ghost use Rattle.std.specs.Prelude.{◌≡◌, ◌<◌, length, map, slice_get, IfSome, Some};
+ghost use Rattle.std.specs.Prelude.{◌≡◌, ◌<◌, ℕ, length, map, slice_get, MatchOption, Some};
 ghost use Rattle.macho_fields.specs.Bytes.{bytes_of};
 ghost use Rattle.macho_fields.specs.Image.{commands_of};
 ghost use Rattle.macho_fields.specs.declared.rule.Rule.{Rule};
 ghost use Rattle.macho_image.specs.Symbol.{symbols_of, symbol_at};
+ghost use Rattle.macho_explain.specs.Explain.{IsSymbolAt};
 ghost use Rattle.macho_explain.specs.Explained.{ExplainsIn, IsSpot};
+ghost use Rattle.macho_explain.specs.Symbols.{HasSymbol};
 
 use crate::conflict::Conflict;
 use crate::explanation::Explanation;
@@ -21,29 +23,30 @@ use macho_tables::limits::library_count;
 
 // The symbol at the place, and the image.
 fn symbol_here<'a>(sliced: &Sliced<'a>) -> Option<(Spot, Image<'a>, Symbol)>
-    ensures spot { IfSome result (λ found. IsSpot sliced.now found.0) }
-    ensures image { IfSome result (λ found. found.1 ≡ bytes_of sliced.now.held.bytes) }
-    ensures symbol { IfSome result (λ found. found.2 ≡ symbol_at (bytes_of sliced.now.held.bytes) sliced.now.place) }
+    ensures { MatchOption result (¬ HasSymbol (bytes_of sliced.now.held.bytes) sliced.now.place)
+        (λ found. IsSpot sliced.now found.0 × (found.1 ≡ bytes_of sliced.now.held.bytes)
+        × (found.2 ≡ symbol_at (bytes_of sliced.now.held.bytes) sliced.now.place)) }
 {
     let image = sliced.held.open()?;
     let (symbol, index) = symbol_with(&image, sliced.place)?;
-    let part = sliced.structure(PartKind::Symbol, sliced.place, NLIST_64_SIZE, Some(index));
+    let index = index_of(index);
+    let part = sliced.structure(PartKind::Symbol, sliced.place, NLIST_64_SIZE, index);
     let at = Spot {
-        symbol: Some(index),
+        symbol: index,
         ..sliced.at(part)
     };
     Some((at, image, symbol))
 }
 
 // The symbol at a place, and its index among those of the image.
-fn symbol_with(image: &Image, place: u64) -> Option<(Symbol, u32)>
-    ensures place { IfSome result (λ found. found.0.place ≡ place) }
-    ensures listed { IfSome result (λ found. slice_get (map (symbol_at image.now)
-        (symbols_of image.now (commands_of image.now))) found.1 ≡ Some found.0) }
+fn symbol_with(image: &Image, place: u64) -> Option<(Symbol, u64)>
+    ensures { MatchOption result ((k : ℕ) → ¬ IsSymbolAt image.now k place)
+        (λ found. (found.0.place ≡ place) × (slice_get (map (symbol_at image.now)
+        (symbols_of image.now (commands_of image.now))) found.1 ≡ Some found.0)) }
 {
     let offset = place.checked_sub(image.symtab()?.symoff)?;
-    let index = u32::try_from(offset / NLIST_64_SIZE).ok()?;
-    let symbol = image.symbol(u64::from(index))?;
+    let index = offset / NLIST_64_SIZE;
+    let symbol = image.symbol(index)?;
     if symbol.place != place {
         return None;
     }

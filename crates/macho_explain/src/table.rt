@@ -1,10 +1,12 @@
 //! The tables that load commands bound. (`mach-o/loader.h`)
 
-ghost use Rattle.std.specs.Prelude.{◌≡◌, ◌+◌, ◌^◌, ◌<◌, []};
+ghost use Rattle.std.specs.Prelude.{◌≡◌, ◌+◌, ◌^◌, ◌<◌, ◌≤◌, length, IfNone, []};
 ghost use Rattle.std.specs.Option.{option_map_or};
 ghost use Rattle.macho_fields.specs.Bytes.{bytes_of};
 ghost use Rattle.macho_fields.specs.LoadCommands.{structure_of, table_fields};
 ghost use Rattle.macho_fields.specs.declared.load_command.Width.TheVariants.{Uint32};
+ghost use Rattle.macho_explain.specs.Commanded.{field_shown};
+ghost use Rattle.macho_explain.specs.Compared.{size_shown, start_shown, written};
 ghost use Rattle.macho_explain.specs.Explain.{IsOfBytes, word_at};
 ghost use Rattle.macho_explain.specs.Parts.{IsPartOf};
 
@@ -32,6 +34,9 @@ pub(crate) fn table_by(sliced: &Sliced, command: u64, fields: TableFields, index
     ensures size { IsOfBytes fields → command + fields.count < 2 ^ 64
         → result.span.len ≡ word_at (bytes_of sliced.now.held.bytes) (command + fields.count) }
     ensures part { IsPartOf sliced.now.held.place result.span result.part }
+    ensures some { 0 < size_shown (bytes_of sliced.now.held.bytes) command fields → 0 < result.span.len }
+    ensures end { result.end ≡ start_shown (bytes_of sliced.now.held.bytes) command fields
+        + size_shown (bytes_of sliced.now.held.bytes) command fields }
 {
     let start = field(sliced, command, fields.place, fields.width);
     let count = field(sliced, command, fields.count, fields.width);
@@ -50,8 +55,9 @@ pub(crate) fn table_by(sliced: &Sliced, command: u64, fields: TableFields, index
 
 // The field of a command, by its offset and its width.
 fn field(sliced: &Sliced, command: u64, offset: u64, width: Width) -> u64
-    ensures { width ≡ Uint32 → command + offset < 2 ^ 64
+    ensures word { width ≡ Uint32 → command + offset < 2 ^ 64
         → result ≡ word_at (bytes_of sliced.now.held.bytes) (command + offset) }
+    ensures field { result ≡ field_shown (bytes_of sliced.now.held.bytes) width (written (command + offset)) }
 {
     let place = command.saturating_add(offset);
     match width {
@@ -71,7 +77,9 @@ pub(crate) fn tables_of(cmd: u32) -> &'static [TableFields]
 }
 
 // The table with this index of a command.
-pub(crate) fn table_with(sliced: &Sliced, load: Load, index: u64) -> Option<Bounded> {
+pub(crate) fn table_with(sliced: &Sliced, load: Load, index: u64) -> Option<Bounded>
+    ensures { IfNone result (length (option_map_or table_fields (structure_of load.cmd) []) ≤ index) }
+{
     let fields = tables_of(load.cmd).get(index as usize)?;
     Some(table_by(sliced, load.place, *fields, index))
 }

@@ -1,9 +1,10 @@
 //! Where a load command is, among those of any bytes.
 
-ghost use Rattle.std.specs.Prelude.{◌≡◌, ◌↔◌, ◌⊎◌, length, IfSome, IsTrue, MatchOption};
+ghost use Rattle.std.specs.Prelude.{◌↔◌, ◌⊎◌, IsTrue, MatchOption};
 ghost use Rattle.macho_fields.specs.Bytes.{bytes_of};
 ghost use Rattle.macho_rows.specs.Loads.{IsLoad};
-ghost use Rattle.macho_explain.specs.Explain.{all_loads, IsUncounted, IsWalked, Meets, NoneMeets};
+ghost use Rattle.macho_explain.specs.Commanded.{IsEnd};
+ghost use Rattle.macho_explain.specs.Explain.{IsUncounted, IsWalked, Meets, NoneMeets};
 
 use macho_fields::Bytes;
 use macho_fields::header::loader::MACH_HEADER_64_SIZE;
@@ -78,9 +79,10 @@ pub(crate) struct WalkEnd {
 
 // Walks over all commands.
 pub(crate) fn walk_end(image: Bytes) -> Option<WalkEnd>
-    ensures { IfSome result (λ end. end.count ≡ length (all_loads (bytes_of image.entry))) }
+    ensures { MatchOption result (IsUncounted (bytes_of image.entry)) (IsEnd (bytes_of image.entry)) }
 {
     let mut cursor = START;
+    let mut place = MACH_HEADER_64_SIZE;
     let mut count: u32 = 0;
     let mut last = None;
     while let Some(load) = next_wanted(image, &mut cursor, Wanted::All) {
@@ -89,11 +91,8 @@ pub(crate) fn walk_end(image: Bytes) -> Option<WalkEnd>
             index: count,
             sections: 0,
         });
+        place = load.place + load.size;
         count = count.checked_add(1)?;
     }
-    Some(WalkEnd {
-        place: cursor.place.max(MACH_HEADER_64_SIZE),
-        count,
-        last,
-    })
+    Some(WalkEnd { place, count, last })
 }

@@ -127,7 +127,7 @@ walk_start of stream limits = record {
 }
 
 -- one step more looks up its name too
-looked_up_more : (cursor : Cursor) (before : List Step) (here : Step) → looked_up cursor (before ++ here ∷ []) ≡ looked_up cursor before + looks_up (fold moved cursor before) here
+pub looked_up_more : (cursor : Cursor) (before : List Step) (here : Step) → looked_up cursor (before ++ here ∷ []) ≡ looked_up cursor before + looks_up (fold moved cursor before) here
 looked_up_more cursor [] here = omega arith
 looked_up_more cursor (first ∷ before) here = let more = looked_up_more (moved cursor first) before here in omega (arith, more)
 

@@ -125,8 +125,8 @@ impl Stream {
     ghost use Rattle.std.specs.Prelude.{◌≡◌};
     ghost use Rattle.macho_opcodes.specs.Images.{opcodes_of, fields_of};
 
-    // What its opcodes are.
-    fn opcodes(self) -> Opcodes
+    /// What its opcodes are.
+    pub fn opcodes(self) -> Opcodes
         ensures { result ≡ opcodes_of self }
     {
         match self {
@@ -136,8 +136,8 @@ impl Stream {
         }
     }
 
-    // The fields that bound it.
-    fn fields(self) -> TableFields
+    /// The fields that bound it.
+    pub fn fields(self) -> TableFields
         ensures { result ≡ fields_of self }
     {
         match self {

@@ -2,7 +2,7 @@ mod FewSpans
 mod IndirectWalks
 mod NearAddresses
 mod ObsoleteTables
-mod RelocationWalks
+pub mod RelocationWalks
 mod SectionNumbers
 mod SymbolWalks
 pub mod Near

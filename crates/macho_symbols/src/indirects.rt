@@ -1,4 +1,4 @@
-//! The sections of stubs and of pointers to symbols, each of which has an indirect entry. (`mach-o/loader.h`:
+//! The sections of stubs and of pointers to symbols, which have indirect entries. (`mach-o/loader.h`:
 //! `section_64`, `dysymtab_command`)
 
 ghost use Rattle.std.specs.Prelude.{◌≡◌, ◌↔◌, ◌<◌, IsTrue};

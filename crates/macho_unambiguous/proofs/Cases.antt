@@ -41,7 +41,7 @@ is_image bytes none = elim (cases_lt (length bytes) 4) [
   | inr long ↦ elim (cases_eq (number Little 4 bytes 0) loader.MH_MAGIC_64) [ inl same ↦ (long, same) | inr other ↦ absurd (none (λ image. other image.1)) ]
 ]
 
--- Answers that are places with P, of which no two have it
+-- Answers that are places with P, where no two places have it
 
 module _ (places : List ℕ) (P : ℕ → Type 0) where
   pub ended : (place : ℕ) → IsEndWith places P place → Contains places place × P place

@@ -1,4 +1,4 @@
-use Rattle.std.proofs.Common.{◌≡◌, ◌∙◌, refl, ap, sym}
+use Rattle.std.proofs.Common.{◌∙◌, refl, ap, sym}
 use Rattle.std.proofs.lemmas.Option.{none-some}
 use Rattle.macho_chains.specs.ChainHeader.{chain_header}
 use Rattle.macho_fields.specs.Bytes.{bytes_of}

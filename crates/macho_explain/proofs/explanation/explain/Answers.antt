@@ -7,13 +7,13 @@ use Rattle.macho_explain.proofs.explanation.explain.Goals as goal
 pub returns-then-place-len : goal.returns-then-place-len
 returns-then-place-len c =
     let past : length c.args.file.now < c.args.place = omega (arith, c.if-place-len.true) in
-    lacks_past (shown c.args.rule) c.args.file.now c.args.place past
+    lacks_past (shown c.args.rule) c.args.rule c.args.file.now c.args.place past
 
 pub returns-in_err-found : goal.returns-in_err-found
 returns-in_err-found c =
     let image = c.image_with-image.result in
     let has = subst (λ file. MatchesByAs (shown c.args.rule) file c.args.place image None) c.new.ensures c.in_err-found.ensures in
-    rw c.from_residual.ensures (lacks (shown c.args.rule) c.args.file.now c.args.place image has)
+    rw c.from_residual.ensures (lacks (shown c.args.rule) c.args.rule c.args.file.now c.args.place image c.image_with-image.ensures has)
 
 pub returns : goal.returns
 returns c =
@@ -23,6 +23,6 @@ returns c =
     let found = c.in_ok-found.found in
     let part = c.placed.result.at.part in
     let has = subst (λ bytes. MatchesByAs (shown c.args.rule) bytes place image (Some found)) c.new.ensures c.in_ok-found.ensures in
-    let whole = shows (shown c.args.rule) file place image found part c.image_with-image.ensures has in
+    let whole = shows (shown c.args.rule) c.args.rule file place image found part c.image_with-image.ensures has in
     let at = c.placed.ensures.place in
-    (record { inside = omega (arith, at.inside); from = at.from; to = at.to }, subst (ShowsAs (shown c.args.rule) file place) (sym c.placed.ensures.same) whole)
+    (record { inside = omega (arith, at.inside); from = at.from; to = at.to }, subst (ShowsAs (shown c.args.rule) c.args.rule file place) (sym c.placed.ensures.same) whole)

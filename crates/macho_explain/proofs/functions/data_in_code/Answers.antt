@@ -1,8 +1,7 @@
-use Rattle.std.proofs.Common.{arith}
 use Rattle.macho_fields.specs.Bytes.{bytes_of}
 use Rattle.macho_fields.specs.declared.header.loader.TheConstants as loader
 use Rattle.macho_explain.specs.Wholes.{named_table}
-use Rattle.macho_explain.proofs.Wholes.{in_image, lacks, not_before}
+use Rattle.macho_explain.proofs.Wholes.{lacks}
 use Rattle.macho_explain.proofs.functions.data_in_code.Goals as goal
 
 pub returns-in_err-whole : goal.returns-in_err-whole

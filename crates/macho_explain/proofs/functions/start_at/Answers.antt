@@ -1,9 +1,8 @@
-use Rattle.std.proofs.Common.{◌≡◌, ◌∙◌, ◌<◌, ◌+◌, ◌++◌, ◌∷◌, [], ℕ, None, Some, refl, subst, sym, arith}
+use Rattle.std.proofs.Common.{◌≡◌, ◌∙◌, ◌+◌, ◌++◌, ◌∷◌, [], ℕ, refl, subst, sym, arith}
 use Rattle.std.specs.Prelude.{sum}
 use Rattle.std.proofs.lemmas.List.Sums.{sum_by_push}
 use Rattle.std.proofs.lemmas.Option.{none-some}
 use Rattle.macho_fields.specs.Bytes.{bytes_of}
-use Rattle.macho_tables.specs.Numbers.{unsigned_at}
 use Rattle.macho_tables.specs.StartNumbers.{AreNumbers}
 use Rattle.macho_tables.proofs.StartNumbers.{number_within, numbers_more}
 use Rattle.macho_explain.proofs.FunctionNumbers.{numbers_go_on, same_number}

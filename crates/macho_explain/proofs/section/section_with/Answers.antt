@@ -1,4 +1,4 @@
-use Rattle.std.proofs.Common.{◌≡◌, ◌+◌, ◌/◌, ◌<◌, ap, arith, subst}
+use Rattle.std.proofs.Common.{◌≡◌, ◌+◌, ◌/◌, ◌<◌, ap, arith, refl, subst}
 use Rattle.macho_fields.specs.Bytes.{bytes_of}
 use Rattle.macho_rows.specs.Sections.{nsects_at}
 use Rattle.macho_rows.specs.declared.sections.KesvuotSection.{KesvuotSection}
@@ -6,8 +6,8 @@ use Rattle.macho_explain.specs.Explain.{IsSectionAt}
 use Rattle.macho_explain.proofs.Walked.{when_some}
 use Rattle.macho_explain.proofs.section.section_with.Goals as goal
 
-pub returns : goal.returns
-returns c =
+pub returns-clause-found : goal.returns-clause-found
+returns-clause-found c =
     let image = bytes_of c.args.sliced.now.held.bytes in
     let walked = c.args.walked.now in
     let offset = c.in_ok-number.field-0 in
@@ -28,4 +28,7 @@ returns c =
       };
       at = when_some (λ k. IsSectionAt image k c.args.place) (walked.sections + nth) c.section_index.result c.section_index.ensures
           (walked.index, walked.load.place, nth, c.requires.listed, less, ap (λ n. n + nth) c.requires.sections, omega (arith, from), omega (arith, from));
+      from = omega (arith, from);
+      to = omega (arith, from);
+      start = (nth, refl);
     }

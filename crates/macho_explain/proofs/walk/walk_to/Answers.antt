@@ -1,5 +1,4 @@
-use Rattle.std.proofs.Common.{◌≡◌, ◌+◌, ◌<◌, ◌≤◌, ◌^◌, ℕ, [], length, sym, ap, subst, arith, inl, inr, ◌∙◌}
-use Rattle.std.specs.Prelude.{slice_get, Some}
+use Rattle.std.proofs.Common.{◌≡◌, ◌+◌, ◌≤◌, ◌^◌, [], sym, ap, arith, inl, inr, ◌∙◌}
 use Rattle.std.proofs.lemmas.Bool.{false≢true}
 use Rattle.std.proofs.lemmas.Option.{slice_get_within}
 use Rattle.macho_fields.specs.Bytes.{bytes_of}
@@ -20,6 +19,7 @@ returns-then-is_sought c =
       load = c.in-Some.ensures.load.0;
       past = c.in-Some.ensures.past;
       meets = c.is_sought.ensures.0 c.if-is_sought.true;
+      first = c.loop-load.invariant.passed;
       sections = c.loop-load.invariant.sections;
     }
 

@@ -1,0 +1,57 @@
+-- What the rules of chained fixups are about. A place is one in the image, and an offset one in the table.
+-- (mach-o/fixup-chains.h)
+use Rattle.std.specs.Prelude.{◌≡◌, ◌≢◌, ℕ, suc, ◌+◌, ◌≤◌, ◌⊎◌, List, length, MatchOption, Some}
+use Rattle.macho_chains.specs.ChainHeader.{chain_header}
+use Rattle.macho_chains.specs.ChainImports.{AtImport, ImportsEndPast, names_size}
+use Rattle.macho_chains.specs.ChainStarts.{entry_offset, seg_count, seg_info_offset}
+use Rattle.macho_chains.specs.declared.chain_header.ChainHeader.{ChainHeader}
+use Rattle.macho_fields.specs.declared.header.loader.TheConstants as loader
+use Rattle.macho_spans.specs.declared.span.Span.{Span}
+use Rattle.macho_tables.specs.Items.{AtItem}
+use Rattle.macho_explain.specs.Wholes.{named_table, IsWhole, Opens}
+
+-- they are the table, and its header is known
+abbrev pub AreChains : List ℕ → Span → List ℕ → ChainHeader → Type 0
+AreChains image table bytes header =
+    IsWhole image (named_table image loader.LC_DYLD_CHAINED_FIXUPS) table bytes × (chain_header bytes ≡ Some header)
+
+-- P holds of the table, its bytes and its header
+abbrev pub OfChains : List ℕ → (Span → List ℕ → ChainHeader → Type 0) → Type 0
+OfChains image P =
+    (table : Span) × (chains : List ℕ) × (header : ChainHeader) × AreChains image table chains header × P table chains header
+
+-- the place is at an offset of the table, with P
+abbrev pub InFixups : (List ℕ → ChainHeader → ℕ → Type 0) → List ℕ → ℕ → Type 0
+InFixups P image place =
+    Opens image × OfChains image (λ table chains header.
+    (offset : ℕ) × (place ≡ table.start + offset) × P chains header offset)
+
+-- an import begins at an offset
+abbrev pub IsImportAt : List ℕ → ChainHeader → ℕ → Type 0
+IsImportAt chains header offset = AtImport chains header (λ k. Unit {0}) offset
+
+-- the entry k lies in the table, and its segment has starts
+abbrev pub HasStartsAt : List ℕ → ChainHeader → ℕ → Type 0
+HasStartsAt chains header k =
+    (entry_offset header (suc k) ≤ length chains) × (seg_info_offset chains header k ≢ 0)
+
+-- an entry of a segment that has starts begins at an offset
+abbrev pub IsEntryAt : List ℕ → ChainHeader → ℕ → Type 0
+IsEntryAt chains header offset =
+    MatchOption (seg_count chains header) ⊥ (λ count. AtItem (entry_offset header) count (HasStartsAt chains header) offset)
+
+-- What the rules are about
+
+-- the start of a table that ends before seg_count does; or seg_count, or the entry of a segment that has starts
+abbrev pub IsStartsAt : List ℕ → ChainHeader → ℕ → Type 0
+IsStartsAt chains header offset =
+    MatchOption (seg_count chains header) (offset ≡ 0)
+    (λ count. (offset ≡ header.starts_offset) ⊎ AtItem (entry_offset header) count (HasStartsAt chains header) offset)
+
+-- the start of a table whose imports end past it; or an import
+abbrev pub IsImportsAt : List ℕ → ChainHeader → ℕ → Type 0
+IsImportsAt chains header offset = ((offset ≡ 0) × ImportsEndPast chains header) ⊎ IsImportAt chains header offset
+
+-- an import, where the names before its own have no more bytes than the table
+abbrev pub IsShortAt : List ℕ → ChainHeader → ℕ → Type 0
+IsShortAt chains header offset = AtImport chains header (λ k. names_size chains header k ≤ length chains) offset
