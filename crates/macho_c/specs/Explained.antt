@@ -1,10 +1,10 @@
 -- What kesvuot_explain answers.
-use Rattle.std.specs.Prelude.{◌≡◌, ℕ, ◌-◌, ◌^◌, List, Option, Some, None, IfSome}
+use Rattle.std.specs.Prelude.{◌≡◌, ℕ, ◌-◌, ◌^◌, List, Option, Some, None, MatchOption}
 use Rattle.macho_fields.specs.RuleList.{rule_number}
 use Rattle.macho_fields.specs.declared.rule.Rule.{Rule}
 use Rattle.macho_c.specs.declared.explain.KesvuotExplanation.{KesvuotExplanation}
 use Rattle.macho_c.specs.declared.explain.KesvuotPart.{KesvuotPart}
-use Rattle.macho_explain.specs.Explained.{IsExplained}
+use Rattle.macho_explain.specs.Explained.{IsExplained, IsUnexplained}
 use Rattle.macho_explain.specs.declared.explanation.Explanation.{Explanation}
 use Rattle.macho_explain.specs.declared.part.Part.{Part}
 use Rattle.macho_explain.specs.declared.part.PartKind.{PartKind}
@@ -107,7 +107,16 @@ IsExplanation file number place e =
     (r : Rule) × (found : Explanation) × (rule_number r ≡ number) × IsExplained r file place found
     × (e ≡ explanation_in_c found)
 
+-- no rule has the number, or what the rule is about is not at the place
+abbrev pub IsNotExplained : List ℕ → ℕ → ℕ → Type 0
+IsNotExplained file number place =
+    (r : Rule) → rule_number r ≡ number → IsUnexplained r file place
+
+abbrev pub IsExplanationIn : List ℕ → ℕ → ℕ → Option KesvuotExplanation → Type 0
+IsExplanationIn file number place found =
+    MatchOption found (IsNotExplained file number place) (IsExplanation file number place)
+
 -- The answer on the number of a rule, and a place.
 abbrev pub IsAnswer : List ℕ → ℕ → ℕ → ℕ → KesvuotExplanation → Type 0
 IsAnswer file number place status e =
-    Tells (λ found. IfSome found (IsExplanation file number place)) (Answers nothing_in_c status e)
+    Tells (IsExplanationIn file number place) (Answers nothing_in_c status e)

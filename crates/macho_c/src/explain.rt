@@ -1,7 +1,7 @@
 //! Why a file is refused: what is at the place of the verdict, and which parts and numbers conflict there.
 
-ghost use Rattle.std.specs.Prelude.{◌≡◌, IfSome};
-ghost use Rattle.macho_c.specs.Explained.{IsAnswer, IsExplanation, explanation_in_c, index_in_c, part_in_c, part_number, some_part_in_c};
+ghost use Rattle.std.specs.Prelude.{◌≡◌};
+ghost use Rattle.macho_c.specs.Explained.{IsAnswer, IsExplanationIn, explanation_in_c, index_in_c, part_in_c, part_number, some_part_in_c};
 
 use crate::status::answer;
 use crate::verdict::KesvuotVerdict;
@@ -84,7 +84,7 @@ pub extern "C" fn kesvuot_explain(
 
 // What explains the verdict.
 fn explained(file: &[u8], verdict: &KesvuotVerdict) -> Option<KesvuotExplanation>
-    ensures { IfSome result (IsExplanation file.now verdict.now.rule verdict.now.place) }
+    ensures { IsExplanationIn file.now verdict.now.rule verdict.now.place result }
 {
     let rule = Rule::with_number(verdict.rule)?;
     let found = explain(file, rule, verdict.place)?;
