@@ -14,7 +14,12 @@ use Rattle.macho_explain.specs.Fixups.{AreChains, InFixups, OfChains}
 use Rattle.macho_explain.specs.Wholes.{named_table, Opens}
 use Rattle.macho_explain.proofs.Wholes.{same_bytes, same_table}
 
--- without a table nothing is in it
+-- without a table nothing is said of it
+pub no_chains : (image : List ℕ) (P : Span → List ℕ → ChainHeader → Type 0)
+    → (Opens image → (table : Span) (bytes : List ℕ) (header : ChainHeader) → ¬ AreChains image table bytes header) → Opens image → ¬ OfChains image P
+no_chains image P none opens (table, chains, header, are, has) = none opens table chains header are
+
+-- and nothing is in it
 pub no_fixup : (image : List ℕ) (P : List ℕ → ChainHeader → ℕ → Type 0) (place : ℕ)
     → (Opens image → (table : Span) (bytes : List ℕ) (header : ChainHeader) → ¬ AreChains image table bytes header) → ¬ InFixups P image place
 no_fixup image P place none (opens, (table, chains, header, are, has)) = none opens table chains header are

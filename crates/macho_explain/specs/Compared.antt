@@ -3,7 +3,7 @@
 use Rattle.std.specs.Prelude.{◌≡◌, ℕ, ◌+◌, ◌-◌, ◌*◌, ◌/◌, ◌%◌, ◌^◌, ◌≢◌, ◌≤◌, ◌<◌, ◌⊎◌, min, take, List, [], Any, length, Option, Some, MatchOption, IsSomeAnd, slice_get, true}
 use Rattle.std.specs.Option.{option_map, option_map_or}
 use Rattle.macho_fields.specs.Image.{command_cmd, command_size, commands_of}
-use Rattle.macho_fields.specs.LoadCommands.{structure_of, table_fields}
+use Rattle.macho_fields.specs.LoadCommands.{structure_of, table_fields, indirect_table}
 use Rattle.macho_fields.specs.declared.load_command.TableFields.{TableFields}
 use Rattle.macho_fields.specs.Segment.{all_segments, base_of, vmaddr, vmsize, fileoff, filesize, section_address, section_size, section_offset, reloff, nreloc, section_count}
 use Rattle.macho_fields.specs.Symbol.{n_strx, n_sect}
@@ -15,7 +15,7 @@ use Rattle.macho_chains.specs.ChainPointers.{pointer_of}
 use Rattle.macho_tables.specs.DataInCode.{entry_at, entry_place}
 use Rattle.macho_exports.specs.ExportTrie.{Node, node_at, export_in}
 use Rattle.macho_exports.specs.Exports.{export_table}
-use Rattle.macho_tables.specs.Homes.{bytes_of_segment}
+use Rattle.macho_tables.specs.Homes.{bytes_of_segment, LacksHome}
 use Rattle.macho_tables.specs.Kinds.{share_kind}
 use Rattle.macho_tables.specs.Limits.{library_count}
 use Rattle.macho_tables.specs.Numbers.{unsigned_at}
@@ -43,7 +43,7 @@ use Rattle.macho_explain.specs.Seals.{IsRepeatShown, ShowsHash}
 use Rattle.macho_explain.specs.Signatures.{IsBlobShown, IsLimitShown, IsSuperblobShown, IsUnsoundShown, ShowsSignature}
 use Rattle.macho_signature.specs.Signature.{bytes_at}
 use Rattle.macho_explain.specs.Blobs.{InSignature, IsBlobAt, IsDirectoryPlace, IsLimitAt, IsRepeatAt}
-use Rattle.macho_explain.specs.Fixups.{InFixups, IsImportAt, IsImportsAt, IsShortAt, IsStartsAt}
+use Rattle.macho_explain.specs.Fixups.{HasMissing, InFixups, IsImportAt, IsImportsAt, IsShortAt, IsStartsAt}
 use Rattle.macho_explain.specs.SectionItems.{HasInitOffset, HasRelocation}
 use Rattle.macho_explain.specs.Streams.{HasBind, HasBindOpcode, HasRebase, HasRebaseOpcode, OfBinds, ShowsStep}
 use Rattle.macho_explain.specs.declared.stream.Asked.TheVariants as asked
@@ -247,6 +247,27 @@ abbrev pub HasTablePast : List ℕ → ℕ → ℕ → Type 0
 HasTablePast image place cmd =
     Any (IsTablePast image place) (option_map_or table_fields (structure_of cmd) [])
 
+-- its bytes
+abbrev pub span_shown : List ℕ → ℕ → TableFields → Span
+span_shown image place fields = record {
+  start = start_shown image place fields;
+  len = written (size_shown image place fields);
+}
+
+-- loaders look for such a table of a command with this cmd: of LC_DYSYMTAB for the indirect entries alone
+abbrev pub IsLookedFor : ℕ → TableFields → Type 0
+IsLookedFor cmd fields = (cmd ≢ loader.LC_DYSYMTAB) ⊎ (fields.place ≡ indirect_table.place)
+
+-- they do, and the table has bytes and no home
+abbrev pub IsLostTable : List ℕ → ℕ → ℕ → TableFields → Type 0
+IsLostTable image place cmd fields =
+    IsLookedFor cmd fields × LacksHome image (span_shown image place fields)
+
+-- a command with this cmd has such a table
+abbrev pub HasLostTable : List ℕ → ℕ → ℕ → Type 0
+HasLostTable image place cmd =
+    Any (IsLostTable image place cmd) (option_map_or table_fields (structure_of cmd) [])
+
 -- What a rule is about: of the rules for which it is promised that this is explained
 
 abbrev pub HasHeader : List ℕ → ℕ → Type 0
@@ -364,7 +385,7 @@ shown rule.CommandSlack = OfImage HasCommandByte (λ image place c. IsByteShown 
 shown rule.UnclaimedByte = OfImage HasByte (λ image place c. IsByteShown image place c)
 shown rule.TableRepeated = OfImage (λ image place. HasCommand image place × HasEarlier (all_loads image) (λ earlier. share_kind (command_cmd image earlier) (command_cmd image place) ≡ true) place) (λ image place c. (c.value ≡ command_cmd image place) × (share_kind c.limit c.value ≡ true) × IsBefore c)
 shown rule.FunctionVariants = OfImage HasCommand (λ image place c. (c.value ≡ command_cmd image place) × (c.limit ≡ 0))
-shown rule.TableHome = OfImage Unpromised (λ image place c. IsHomelessShown image c)
+shown rule.TableHome = OfImage (λ image place. HasCommand image place × Opens image × HasLostTable image place (command_cmd image place)) (λ image place c. IsHomelessShown image c)
 shown rule.HeaderHome = OfImage HasHeader (λ image place c. (c.limit ≡ 1) ⊎ ((segment : ℕ) × (c.limit ≡ vmaddr image segment)))
 shown rule.RebaseOpcode = OfImage HasRebaseOpcode (λ image place c. (slice_get image place ≡ Some c.value) × (c.limit ≡ 143))
 shown rule.RebaseSlot = OfImage (HasRebase asked.Slot) (λ image place c. ShowsStep asked.Slot streams.Rebase image place c)
@@ -381,7 +402,7 @@ shown rule.ChainImports = OfImage (InFixups IsImportsAt) (λ image place c. IsCh
 shown rule.ChainTotal = OfImage (InFixups IsShortAt) (λ image place c. IsChainSize image c.limit)
 shown rule.ChainLibrary = OfImage (InFixups IsImportAt) (λ image place c. c.limit ≡ library_count image)
 shown rule.ChainSlot = OfImage Unpromised (λ image place c. 8 ≤ c.value)
-shown rule.ChainBind = OfImage Unpromised (λ image place c. Binds image place c.value)
+shown rule.ChainBind = OfImage HasMissing (λ image place c. Binds image place c.value × (c.limit ≤ c.value))
 shown rule.ExportNode = OfImage HasNodeAt (λ image place c. InTrie image place (λ trie offset. (c.value ≡ offset) × (c.limit ≡ length trie)))
 shown rule.ExportTotal = OfImage (HasNodeWith (λ image trie terminal. Unit {0})) (λ image place c. InTrie image place (λ trie offset. HasNode trie offset (λ terminal end. c.value ≡ end - offset) × (c.limit ≡ length trie)))
 shown rule.ExportTerminal = OfImage (HasNodeWith (λ image trie terminal. Unit {0})) (λ image place c. InTrie image place (λ trie offset. HasNode trie offset (λ terminal end. c.value ≡ flags_shown trie terminal)) × (c.limit ≡ 0x1f))

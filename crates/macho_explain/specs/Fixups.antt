@@ -1,13 +1,18 @@
 -- What the rules of chained fixups are about. A place is one in the image, and an offset one in the table.
 -- (mach-o/fixup-chains.h)
-use Rattle.std.specs.Prelude.{◌≡◌, ◌≢◌, ℕ, suc, ◌+◌, ◌≤◌, ◌⊎◌, List, length, MatchOption, Some}
+use Rattle.std.specs.Prelude.{◌≡◌, ◌≢◌, ℕ, suc, ◌+◌, ◌≤◌, ◌<◌, ◌⊎◌, List, length, slice_index, IsSomeAnd, MatchOption, Some}
 use Rattle.macho_chains.specs.ChainHeader.{chain_header}
 use Rattle.macho_chains.specs.ChainImports.{AtImport, ImportsEndPast, names_size}
-use Rattle.macho_chains.specs.ChainStarts.{entry_offset, seg_count, seg_info_offset}
+use Rattle.macho_chains.specs.ChainPointers.{pointer_of}
+use Rattle.macho_chains.specs.ChainStarts.{entry_offset, seg_count, seg_info_offset, starts_of}
 use Rattle.macho_chains.specs.declared.chain_header.ChainHeader.{ChainHeader}
 use Rattle.macho_fields.specs.declared.header.loader.TheConstants as loader
+use Rattle.macho_fields.specs.Segment.{all_segments}
+use Rattle.macho_spans.specs.Span.{Holds}
 use Rattle.macho_spans.specs.declared.span.Span.{Span}
+use Rattle.macho_tables.specs.Homes.{bytes_of_segment}
 use Rattle.macho_tables.specs.Items.{AtItem}
+use Rattle.macho_explain.specs.Explain.{long_at}
 use Rattle.macho_explain.specs.Wholes.{named_table, IsWhole, Opens}
 
 -- they are the table, and its header is known
@@ -40,7 +45,25 @@ abbrev pub IsEntryAt : List ℕ → ChainHeader → ℕ → Type 0
 IsEntryAt chains header offset =
     MatchOption (seg_count chains header) ⊥ (λ count. AtItem (entry_offset header) count (HasStartsAt chains header) offset)
 
+-- the segment k has starts and the byte at the place, and the pointer there binds an import that is not in the table
+abbrev pub BindsMissing : List ℕ → List ℕ → ChainHeader → ℕ → ℕ → Type 0
+BindsMissing image chains header place k =
+    HasStartsAt chains header k × (k < length (all_segments image))
+    × Holds (bytes_of_segment image (slice_index (all_segments image) k)) place
+    × IsSomeAnd (starts_of chains header k) (λ starts.
+    IsSomeAnd (pointer_of starts.format (long_at image place)).import (λ import. header.imports_count ≤ import))
+
+-- one of the segments does
+abbrev pub HasMissingIn : List ℕ → List ℕ → ChainHeader → ℕ → Type 0
+HasMissingIn image chains header place =
+    MatchOption (seg_count chains header) ⊥ (λ count. (k : ℕ) × (k < count) × BindsMissing image chains header place k)
+
 -- What the rules are about
+
+-- a pointer in a segment that has starts, which binds an import that is not there
+abbrev pub HasMissing : List ℕ → ℕ → Type 0
+HasMissing image place =
+    Opens image × OfChains image (λ table chains header. HasMissingIn image chains header place)
 
 -- the start of a table that ends before seg_count does; or seg_count, or the entry of a segment that has starts
 abbrev pub IsStartsAt : List ℕ → ChainHeader → ℕ → Type 0

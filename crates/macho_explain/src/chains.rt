@@ -4,7 +4,8 @@ ghost use Rattle.std.specs.Prelude.{◌≡◌, ◌≢◌, ◌+◌, ◌^◌, ◌�
 ghost use Rattle.macho_fields.specs.Bytes.{bytes_of};
 ghost use Rattle.macho_fields.specs.declared.rule.Rule.{Rule};
 ghost use Rattle.macho_chains.specs.ChainImports.{ImportsEndPast, import_offset as import_offset_of, names_size as names_size_of};
-ghost use Rattle.macho_chains.specs.ChainStarts.{entry_offset as entry_offset_of};
+ghost use Rattle.macho_chains.specs.ChainStarts.{entry_offset as entry_offset_of, starts_of};
+ghost use Rattle.macho_fields.specs.Image.{word};
 ghost use Rattle.macho_chains.specs.declared.chain_header.ChainHeader.{ChainHeader};
 ghost use Rattle.macho_spans.specs.declared.span.Span.{Span};
 ghost use Rattle.macho_explain.specs.Compared.{IsChainSize};
@@ -221,13 +222,18 @@ fn at_import(sliced: &Sliced, chains: &Chains, index: u32, value: u64, limit: u6
 
 impl Chains<'_> {
     // The offset in the table of the entry of the segment with this index.
-    pub(crate) fn entry_offset(&self, index: u32) -> u64 {
+    pub(crate) fn entry_offset(&self, index: u32) -> u64
+        ensures { result ≡ entry_offset_of self.now.header index }
+    {
         let entries = u64::from(self.header.starts_offset) + DYLD_CHAINED_STARTS_IN_IMAGE_SIZE;
         entries + u64::from(index) * SEG_INFO_OFFSET_SIZE
     }
 
     // The starts of the segment with this index, if it has some that can be read.
-    pub(crate) fn starts_of(&self, index: u32) -> Option<SegmentStarts> {
+    pub(crate) fn starts_of(&self, index: u32) -> Option<SegmentStarts>
+        ensures { IsEntryAt (bytes_of self.now.bytes) self.now.header (entry_offset_of self.now.header index)
+            → result ≡ starts_of (bytes_of self.now.bytes) self.now.header index }
+    {
         let (_, offset) = self.entry_at(self.entry_offset(index))?;
         SegmentStarts::read(self.bytes, offset)
     }
@@ -236,7 +242,8 @@ impl Chains<'_> {
     // has some.
     fn entry_at(&self, offset: u64) -> Option<(u32, u64)>
         ensures { MatchOption result (¬ IsEntryAt (bytes_of self.now.bytes) self.now.header offset)
-            (λ found. offset ≡ entry_offset_of self.now.header found.0) }
+            (λ found. (offset ≡ entry_offset_of self.now.header found.0) × (word (bytes_of self.now.bytes) offset ≢ 0)
+            × (found.1 ≡ self.now.header.starts_offset + word (bytes_of self.now.bytes) offset)) }
     {
         let starts_offset = u64::from(self.header.starts_offset);
         let count = self.bytes.u32_at(Order::Little, starts_offset)?;

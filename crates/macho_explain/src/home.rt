@@ -1,24 +1,27 @@
 //! The rule of the home of a table that loaders look for. (docs/rules/linked.md)
 
-ghost use Rattle.std.specs.Prelude.{IfSome};
+ghost use Rattle.std.specs.Prelude.{◌≡◌, ◌↔◌, Any, IfSome, IsTrue, MatchOption};
 ghost use Rattle.macho_fields.specs.Bytes.{bytes_of};
+ghost use Rattle.macho_fields.specs.Image.{commands_of};
+ghost use Rattle.macho_fields.specs.Segment.{all_segments};
 ghost use Rattle.macho_fields.specs.declared.rule.Rule.{Rule};
-ghost use Rattle.macho_explain.specs.Compared.{IsFileEnd, IsHomelessShown};
+ghost use Rattle.macho_explain.specs.Compared.{HasLostTable, IsFileEnd, IsHomelessShown, IsLookedFor};
 ghost use Rattle.macho_explain.specs.Explained.{ExplainsIn};
 ghost use Rattle.macho_explain.specs.Parts.{IsPartOf, Share};
+ghost use Rattle.macho_tables.specs.Homes.{Encrypts, HasHome, IsAstray};
 
 use crate::command::command_here;
 use crate::conflict::{Conflict, shared};
 use crate::explanation::Explanation;
 use crate::part::clamped;
-use crate::segment::{SegmentWith, find_segment};
+use crate::segment::segment_at;
 use crate::sliced::Sliced;
 use crate::table::{Bounded, table_by, tables_of};
 use macho_fields::TableFields;
 use macho_fields::header::loader::dysymtab_command::INDIRECTSYMOFF;
 use macho_fields::header::loader::{LC_DYSYMTAB, LC_ENCRYPTION_INFO_64};
 use macho_image::Image;
-use macho_tables::homes::{has_linkedit, is_home};
+use macho_tables::homes::{encrypts, has_linkedit, is_home};
 use macho_tables::segment::is_linkedit;
 
 // The first table of a command that has no home, and why.
@@ -33,7 +36,9 @@ pub(crate) fn table_home(sliced: &Sliced) -> Option<Explanation>
 
 // Why the first table that has no home has none, of those that the command at the place bounds.
 fn first_homeless(sliced: &Sliced, image: &Image, cmd: u32) -> Option<Conflict>
-    ensures { IfSome result (IsHomelessShown (bytes_of sliced.now.held.bytes)) }
+    requires { image.now ≡ bytes_of sliced.now.held.bytes }
+    ensures { MatchOption result (¬ HasLostTable (bytes_of sliced.now.held.bytes) sliced.now.place cmd)
+        (IsHomelessShown (bytes_of sliced.now.held.bytes)) }
 {
     let mut index: u64 = 0;
     for fields in tables_of(cmd) {
@@ -50,15 +55,19 @@ fn first_homeless(sliced: &Sliced, image: &Image, cmd: u32) -> Option<Conflict>
 }
 
 // Whether loaders look for the table of a command: of those of `LC_DYSYMTAB` for the indirect entries alone.
-fn is_looked_for(cmd: u32, fields: TableFields) -> bool {
+fn is_looked_for(cmd: u32, fields: TableFields) -> bool
+    ensures { IsTrue result ↔ IsLookedFor cmd fields }
+{
     cmd != LC_DYSYMTAB || fields.place == INDIRECTSYMOFF
 }
 
 // Why a table has no home: loaders look for it in no segment, they look in a segment that is not its home, or a
 // kernel decrypts a byte of it.
 fn homeless(sliced: &Sliced, image: &Image, table: &Bounded) -> Option<Conflict>
-    requires { IsPartOf sliced.now.held.place table.now.span table.now.part }
-    ensures { IfSome result (IsHomelessShown (bytes_of sliced.now.held.bytes)) }
+    requires image { image.now ≡ bytes_of sliced.now.held.bytes }
+    requires part { IsPartOf sliced.now.held.place table.now.span table.now.part }
+    ensures { MatchOption result (HasHome table.now.span image.now)
+        (IsHomelessShown (bytes_of sliced.now.held.bytes)) }
 {
     if !has_linkedit(image) {
         return Some(Conflict::alone(table.part, clamped(table.end), 0));
@@ -71,31 +80,35 @@ fn homeless(sliced: &Sliced, image: &Image, table: &Bounded) -> Option<Conflict>
 
 // The first segment in which loaders look for the table, and which is not its home.
 fn astray(sliced: &Sliced, image: &Image, table: &Bounded) -> Option<Conflict>
-    ensures { IfSome result (λ c. IsFileEnd (bytes_of sliced.now.held.bytes) c.limit) }
+    requires { image.now ≡ bytes_of sliced.now.held.bytes }
+    ensures { MatchOption result (¬ Any (IsAstray table.now.span image.now) (all_segments image.now))
+        (λ c. IsFileEnd (bytes_of sliced.now.held.bytes) c.limit) }
 {
-    for segment in image.segments() {
-        if is_linkedit(&segment) && !is_home(&segment, table.span) {
-            let found = find_segment(sliced, SegmentWith::Command(segment.place()))?;
-            let (part, end) = (sliced.segment(&found), found.file_part().end());
-            return Some(Conflict::past(table.part, part, table.end, end));
-        }
-    }
-    None
+    let span = table.span;
+    let segment = image
+        .segments()
+        .find(|segment| is_linkedit(segment) && !is_home(segment, span))?;
+    let end = clamped(segment.file_part().end());
+    Some(Conflict {
+        second: segment_at(sliced, segment.place()),
+        ..Conflict::alone(table.part, clamped(table.end), end)
+    })
 }
 
 // The first encrypted range that shares a byte with the table.
 fn encrypted(sliced: &Sliced, image: &Image, table: &Bounded) -> Option<Conflict>
     requires { IsPartOf sliced.now.held.place table.now.span table.now.part }
-    ensures { IfSome result (IsHomelessShown (bytes_of sliced.now.held.bytes)) }
+    ensures { MatchOption result (¬ Any (Encrypts table.now.span image.now) (commands_of image.now))
+        (IsHomelessShown (bytes_of sliced.now.held.bytes)) }
 {
-    for command in image.commands() {
-        if command.cmd == LC_ENCRYPTION_INFO_64
-            && let Some(conflict) = sharing_range(sliced, table, command.place)
-        {
-            return Some(conflict);
-        }
+    let span = table.span;
+    let command = image
+        .commands()
+        .find(|command| encrypts(image, command, span))?;
+    match sharing_range(sliced, table, command.place) {
+        Some(conflict) => Some(conflict),
+        None => Some(Conflict::alone(table.part, clamped(table.end), 0)),
     }
-    None
 }
 
 // The encrypted range of the command at a place, if it shares a byte with the table.

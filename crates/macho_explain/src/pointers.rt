@@ -1,16 +1,18 @@
 //! The rules of the pointers that are chained in the pages of the segments. (`mach-o/fixup-chains.h`)
 
-ghost use Rattle.std.specs.Prelude.{◌≡◌, IfSome};
+ghost use Rattle.std.specs.Prelude.{◌≡◌, ◌≤◌, IfSome, IsSomeAnd, MatchOption, Some};
 ghost use Rattle.macho_fields.specs.Bytes.{bytes_of};
 ghost use Rattle.macho_fields.specs.declared.rule.Rule.{Rule};
 ghost use Rattle.macho_chains.specs.ChainPointers.{pointer_of};
 ghost use Rattle.macho_explain.specs.Explained.{ExplainsIn};
 ghost use Rattle.macho_explain.specs.Explain.{long_at};
+ghost use Rattle.macho_explain.specs.Compared.{Binds};
+ghost use Rattle.macho_explain.specs.Fixups.{HasMissingIn};
 
 use crate::chains::{Chains, chains_of, header_at};
 use crate::conflict::Conflict;
 use crate::explanation::Explanation;
-use crate::part::{Part, PartKind};
+use crate::part::{Part, PartKind, index_of};
 use crate::segment::segment_at;
 use crate::sliced::Sliced;
 use macho_chains::chain_pages::plain_room;
@@ -71,16 +73,78 @@ pub(crate) fn chain_bind(sliced: &Sliced) -> Option<Explanation>
     ensures { ExplainsIn Rule.ChainBind sliced.now result }
 {
     let chains = chains_of(sliced)?;
-    let segment = find_chained(&sliced.held.open()?, &chains, sliced.place)?;
-    let (lead, pointer) = from_pointer(sliced, &segment, sliced.place)?;
+    let bound = find_bound(sliced, &sliced.held.open()?, &chains)?;
     let header = header_at(sliced, &chains.table, chains.table.span.start)?;
     let count = u64::from(chains.header.imports_count);
     Some(
-        sliced.at(lead.at).shows(Conflict {
-            second: segment_at(sliced, segment.command),
-            ..Conflict::alone(header, pointer.import?, count)
+        sliced.at(bound.at).shows(Conflict {
+            second: segment_at(sliced, bound.command),
+            ..Conflict::alone(header, bound.import, count)
         }),
     )
+}
+
+// A pointer that binds an import which is not there, and the command of its segment.
+#[derive(Clone, Copy)]
+struct Bound {
+    at: Part,
+    command: u64,
+    import: u64,
+}
+
+// The pointer at the place, in the first segment by whose starts it binds an import that is not there.
+fn find_bound(sliced: &Sliced, image: &Image, chains: &Chains) -> Option<Bound>
+    requires { image.now ≡ bytes_of sliced.now.held.bytes }
+    ensures { MatchOption result
+        (¬ HasMissingIn (bytes_of sliced.now.held.bytes) (bytes_of chains.now.bytes) chains.now.header sliced.now.place)
+        (λ bound. Binds (bytes_of sliced.now.held.bytes) sliced.now.place bound.import
+        × (chains.now.header.imports_count ≤ bound.import)) }
+{
+    let starts_offset = u64::from(chains.header.starts_offset);
+    let count = chains.bytes.u32_at(Order::Little, starts_offset)?;
+    let mut index: u32 = 0;
+    for segment in image.segments() {
+        if index == count {
+            return None;
+        }
+        if segment.file_part().holds(sliced.place)
+            && let Some(starts) = chains.starts_of(index)
+            && let Some(import) = missing_import(sliced, chains, starts)
+        {
+            return Some(Bound {
+                at: pointer_part(sliced, starts, segment.fileoff()),
+                command: segment.place(),
+                import,
+            });
+        }
+        index += 1;
+    }
+    None
+}
+
+// The import that the pointer at the place binds, if it is not there.
+fn missing_import(sliced: &Sliced, chains: &Chains, starts: SegmentStarts) -> Option<u64>
+    ensures { MatchOption result
+        (¬ IsSomeAnd (pointer_of starts.format (long_at (bytes_of sliced.now.held.bytes) sliced.now.place)).import
+        (λ import. chains.now.header.imports_count ≤ import))
+        (λ import. ((pointer_of starts.format (long_at (bytes_of sliced.now.held.bytes) sliced.now.place)).import
+        ≡ Some import) × (chains.now.header.imports_count ≤ import)) }
+{
+    let import = ChainPointer::of(starts.format, sliced.long(sliced.place)).import?;
+    if import < u64::from(chains.header.imports_count) {
+        return None;
+    }
+    Some(import)
+}
+
+// The pointer at the place, with the index of its page, in a segment whose bytes begin at an offset of the image.
+fn pointer_part(sliced: &Sliced, starts: SegmentStarts, fileoff: u64) -> Part {
+    let offset = sliced.place.saturating_sub(fileoff);
+    let page = match offset.checked_div(u64::from(starts.page_size)) {
+        Some(page) => index_of(page),
+        None => None,
+    };
+    sliced.structure(PartKind::ChainPointer, sliced.place, POINTER_SIZE, page)
 }
 
 // The first segment that has a page start at the place, or the place itself.

@@ -6,7 +6,7 @@ ghost use Rattle.macho_fields.specs.Bytes.{bytes_of};
 ghost use Rattle.macho_fields.specs.LoadCommands.{structure_of, table_fields};
 ghost use Rattle.macho_fields.specs.declared.load_command.Width.TheVariants.{Uint32};
 ghost use Rattle.macho_explain.specs.Commanded.{field_shown};
-ghost use Rattle.macho_explain.specs.Compared.{size_shown, start_shown, written};
+ghost use Rattle.macho_explain.specs.Compared.{size_shown, span_shown, start_shown, written};
 ghost use Rattle.macho_explain.specs.Explain.{IsOfBytes, word_at};
 ghost use Rattle.macho_explain.specs.Parts.{IsPartOf};
 
@@ -33,6 +33,7 @@ pub(crate) fn table_by(sliced: &Sliced, command: u64, fields: TableFields, index
         → result.span.start ≡ word_at (bytes_of sliced.now.held.bytes) (command + fields.place) }
     ensures size { IsOfBytes fields → command + fields.count < 2 ^ 64
         → result.span.len ≡ word_at (bytes_of sliced.now.held.bytes) (command + fields.count) }
+    ensures span { result.span ≡ span_shown (bytes_of sliced.now.held.bytes) command fields }
     ensures part { IsPartOf sliced.now.held.place result.span result.part }
     ensures some { 0 < size_shown (bytes_of sliced.now.held.bytes) command fields → 0 < result.span.len }
     ensures end { result.end ≡ start_shown (bytes_of sliced.now.held.bytes) command fields
