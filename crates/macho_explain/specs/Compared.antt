@@ -43,7 +43,7 @@ use Rattle.macho_explain.specs.Seals.{IsRepeatShown, ShowsHash}
 use Rattle.macho_explain.specs.Signatures.{IsBlobShown, IsLimitShown, IsSuperblobShown, IsUnsoundShown, ShowsSignature}
 use Rattle.macho_signature.specs.Signature.{bytes_at}
 use Rattle.macho_explain.specs.Blobs.{InSignature, IsBlobAt, IsDirectoryPlace, IsLimitAt, IsRepeatAt}
-use Rattle.macho_explain.specs.Fixups.{HasMissing, InFixups, IsImportAt, IsImportsAt, IsShortAt, IsStartsAt}
+use Rattle.macho_explain.specs.Fixups.{HasLead, HasMissing, InFixups, IsImportAt, IsImportsAt, IsShortAt, IsStartsAt}
 use Rattle.macho_explain.specs.SectionItems.{HasInitOffset, HasRelocation}
 use Rattle.macho_explain.specs.Streams.{HasBind, HasBindOpcode, HasRebase, HasRebaseOpcode, OfBinds, ShowsStep}
 use Rattle.macho_explain.specs.declared.stream.Asked.TheVariants as asked
@@ -401,7 +401,7 @@ shown rule.ChainStarts = OfImage (InFixups IsStartsAt) (λ image place c. IsChai
 shown rule.ChainImports = OfImage (InFixups IsImportsAt) (λ image place c. IsChainSize image c.limit)
 shown rule.ChainTotal = OfImage (InFixups IsShortAt) (λ image place c. IsChainSize image c.limit)
 shown rule.ChainLibrary = OfImage (InFixups IsImportAt) (λ image place c. c.limit ≡ library_count image)
-shown rule.ChainSlot = OfImage Unpromised (λ image place c. 8 ≤ c.value)
+shown rule.ChainSlot = OfImage HasLead (λ image place c. 8 ≤ c.value)
 shown rule.ChainBind = OfImage HasMissing (λ image place c. Binds image place c.value × (c.limit ≤ c.value))
 shown rule.ExportNode = OfImage HasNodeAt (λ image place c. InTrie image place (λ trie offset. (c.value ≡ offset) × (c.limit ≡ length trie)))
 shown rule.ExportTotal = OfImage (HasNodeWith (λ image trie terminal. Unit {0})) (λ image place c. InTrie image place (λ trie offset. HasNode trie offset (λ terminal end. c.value ≡ end - offset) × (c.limit ≡ length trie)))

@@ -1,5 +1,5 @@
 -- The parts of a file, and what conflicts. (kesvuot.h: struct kesvuot_part)
-use Rattle.std.specs.Prelude.{◌≡◌, ℕ, ◌+◌, ◌-◌, ◌^◌, ◌≤◌, ◌<◌, min, Option, Some, None, IsSomeAnd}
+use Rattle.std.specs.Prelude.{◌≡◌, ℕ, ◌+◌, ◌-◌, ◌^◌, ◌≤◌, ◌<◌, min, Option, None, IsSomeAnd}
 use Rattle.macho_spans.specs.declared.span.Span.{Span}
 use Rattle.macho_explain.specs.declared.conflict.Conflict.{Conflict}
 use Rattle.macho_explain.specs.declared.part.Part.{Part}

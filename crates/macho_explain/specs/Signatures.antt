@@ -1,6 +1,6 @@
 -- What an explanation shows of the rules of code signatures: two numbers that are not as the rule says, of the table of
 -- LC_CODE_SIGNATURE. An offset is one in it. (docs/reference/explain.md; cs_blobs.h: CS_SuperBlob, CS_CodeDirectory)
-use Rattle.std.specs.Prelude.{◌≡◌, ◌≢◌, ℕ, ◌+◌, ◌*◌, ◌≤◌, ◌<◌, ◌⊎◌, List, length, None, IsSomeAnd}
+use Rattle.std.specs.Prelude.{◌≡◌, ◌≢◌, ℕ, ◌+◌, ◌*◌, ◌<◌, ◌⊎◌, List, length, None, IsSomeAnd}
 use Rattle.macho_fields.specs.declared.header.loader.TheConstants as loader
 use Rattle.macho_spans.specs.declared.span.Span.{Span}
 use Rattle.macho_signature.specs.CodeDirectories.{code_directory, fields_size, scatter_offset, size_of_hash, slots_of, version_of, HasName}

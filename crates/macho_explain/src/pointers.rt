@@ -1,17 +1,18 @@
 //! The rules of the pointers that are chained in the pages of the segments. (`mach-o/fixup-chains.h`)
 
-ghost use Rattle.std.specs.Prelude.{◌≡◌, ◌≤◌, IfSome, IsSomeAnd, MatchOption, Some};
+ghost use Rattle.std.specs.Prelude.{◌≡◌, ◌≢◌, ◌≤◌, ◌<◌, ℕ, IfNone, IsSomeAnd, MatchOption, Some};
 ghost use Rattle.macho_fields.specs.Bytes.{bytes_of};
 ghost use Rattle.macho_fields.specs.declared.rule.Rule.{Rule};
-ghost use Rattle.macho_chains.specs.ChainPointers.{pointer_of};
+ghost use Rattle.macho_chains.specs.ChainPointers.{page_start_offset, pointer_of};
 ghost use Rattle.macho_explain.specs.Explained.{ExplainsIn};
 ghost use Rattle.macho_explain.specs.Explain.{long_at};
 ghost use Rattle.macho_explain.specs.Compared.{Binds};
-ghost use Rattle.macho_explain.specs.Fixups.{HasMissingIn};
+ghost use Rattle.macho_explain.specs.Fixups.{HasLeadIn, HasMissingIn, IsLinked, IsPageStart, LeadsOn};
 
 use crate::chains::{Chains, chains_of, header_at};
 use crate::conflict::Conflict;
 use crate::explanation::Explanation;
+use crate::item::item_at;
 use crate::part::{Part, PartKind, index_of};
 use crate::segment::segment_at;
 use crate::sliced::Sliced;
@@ -29,9 +30,8 @@ use macho_tables::limits::POINTER_SIZE;
 #[derive(Clone, Copy)]
 struct Chained {
     index: u32,
-    // Where its command begins in the image, and its bytes.
+    // Where its command begins in the image.
     command: u64,
-    fileoff: u64,
     starts: SegmentStarts,
     // The offset up to which a loader can write it as it is in the file.
     room: u64,
@@ -51,11 +51,7 @@ pub(crate) fn chain_slot(sliced: &Sliced) -> Option<Explanation>
     ensures { ExplainsIn Rule.ChainSlot sliced.now result }
 {
     let chains = chains_of(sliced)?;
-    let segment = find_chained(&sliced.held.open()?, &chains, sliced.place)?;
-    let lead = match page_at(&chains, &segment.starts, sliced.place) {
-        Some(page) => from_start(sliced, &segment, page, sliced.place)?,
-        None => from_pointer(sliced, &segment, sliced.place)?.0,
-    };
+    let (segment, lead) = find_lead(sliced, &sliced.held.open()?, &chains)?;
     let starts = starts_part(sliced, &chains, &segment);
     let end = lead.next.saturating_add(POINTER_SIZE);
     let limit = segment.starts.page_limit(lead.page, segment.room);
@@ -65,6 +61,46 @@ pub(crate) fn chain_slot(sliced: &Sliced) -> Option<Explanation>
             ..Conflict::alone(starts, end, limit)
         }),
     )
+}
+
+// The first segment in which the place leads to a pointer.
+fn find_lead(sliced: &Sliced, image: &Image, chains: &Chains) -> Option<(Chained, Lead)>
+    requires { image.now ≡ bytes_of sliced.now.held.bytes }
+    ensures { IfNone result (¬ HasLeadIn (bytes_of sliced.now.held.bytes) chains.now.table.span.start
+        (bytes_of chains.now.bytes) chains.now.header sliced.now.place) }
+{
+    let starts_offset = u64::from(chains.header.starts_offset);
+    let count = chains.bytes.u32_at(Order::Little, starts_offset)?;
+    let mut index: u32 = 0;
+    for segment in image.segments() {
+        if index == count {
+            return None;
+        }
+        if let Some(starts) = chains.starts_of(index)
+            && let Some(lead) = lead_at(sliced, chains, segment.file_part(), starts)
+        {
+            let found = Chained {
+                index,
+                command: segment.place(),
+                starts,
+                room: plain_room(image, &segment),
+            };
+            return Some((found, lead));
+        }
+        index += 1;
+    }
+    None
+}
+
+// The page start, or the pointer, at the place, of a segment with these bytes and starts.
+fn lead_at(sliced: &Sliced, chains: &Chains, bytes: Span, starts: SegmentStarts) -> Option<Lead>
+    ensures { IfNone result (¬ LeadsOn (bytes_of sliced.now.held.bytes) chains.now.table.span.start
+        (bytes_of chains.now.bytes) bytes starts sliced.now.place) }
+{
+    if let Some(lead) = from_start(sliced, chains, starts) {
+        return Some(lead);
+    }
+    from_pointer(sliced, bytes, starts)
 }
 
 // The pointer at the place, which binds an import that is not there.
@@ -147,77 +183,54 @@ fn pointer_part(sliced: &Sliced, starts: SegmentStarts, fileoff: u64) -> Part {
     sliced.structure(PartKind::ChainPointer, sliced.place, POINTER_SIZE, page)
 }
 
-// The first segment that has a page start at the place, or the place itself.
-fn find_chained(image: &Image, chains: &Chains, place: u64) -> Option<Chained> {
-    let mut index: u32 = 0;
-    for segment in image.segments() {
-        if let Some(starts) = chains.starts_of(index)
-            && (page_at(chains, &starts, place).is_some() || segment.file_part().holds(place))
-        {
-            return Some(Chained {
-                index,
-                command: segment.place(),
-                fileoff: segment.fileoff(),
-                starts,
-                room: plain_room(image, &segment),
-            });
-        }
-        index = index.checked_add(1)?;
-    }
-    None
-}
-
-// The page whose start is at the place.
-fn page_at(chains: &Chains, starts: &SegmentStarts, place: u64) -> Option<u16> {
-    let past = place
-        .checked_sub(chains.table.span.start)?
-        .checked_sub(starts.offset)?
-        .checked_sub(DYLD_CHAINED_STARTS_IN_SEGMENT_SIZE)?;
-    let page = u16::try_from(past / PAGE_START_SIZE).ok()?;
-    if past % PAGE_START_SIZE != 0 || page >= starts.page_count {
-        return None;
-    }
-    Some(page)
+// The page whose start is at an offset of the table.
+fn page_at(starts: SegmentStarts, offset: u64) -> Option<u16>
+    ensures { IfNone result ((page : ℕ) → page < starts.page_count → offset ≢ page_start_offset starts page) }
+{
+    let first = starts
+        .offset
+        .checked_add(DYLD_CHAINED_STARTS_IN_SEGMENT_SIZE)?;
+    let page = item_at(first, PAGE_START_SIZE, u64::from(starts.page_count), offset)?;
+    Some(page as u16)
 }
 
 // The start of a page, at the place. It leads to the first pointer, if the page has a chain.
-fn from_start(sliced: &Sliced, segment: &Chained, page: u16, place: u64) -> Option<Lead> {
-    let start = sliced.held.bytes.u16_at(Order::Little, place)?;
+fn from_start(sliced: &Sliced, chains: &Chains, starts: SegmentStarts) -> Option<Lead>
+    ensures { IfNone result (¬ IsPageStart chains.now.table.span.start (bytes_of chains.now.bytes) starts sliced.now.place) }
+{
+    let place = sliced.place;
+    let offset = place.checked_sub(chains.table.span.start)?;
+    let page = page_at(starts, offset)?;
+    let start = chains.bytes.u16_at(Order::Little, offset)?;
     if start == DYLD_CHAINED_PTR_START_NONE {
         return None;
     }
+    let index = Some(u32::from(page));
     Some(Lead {
-        at: sliced.structure(
-            PartKind::PageStart,
-            place,
-            PAGE_START_SIZE,
-            Some(u32::from(page)),
-        ),
+        at: sliced.structure(PartKind::PageStart, place, PAGE_START_SIZE, index),
         page,
-        next: segment.starts.page_offset(page) + u64::from(start),
+        next: starts.page_offset(page) + u64::from(start),
     })
 }
 
-// The pointer at the place. It leads to the next one.
-fn from_pointer(sliced: &Sliced, segment: &Chained, place: u64) -> Option<(Lead, ChainPointer)>
-    ensures { IfSome result (λ found. found.1
-        ≡ pointer_of segment.now.starts.format (long_at (bytes_of sliced.now.held.bytes) place)) }
+// The pointer at the place, among the bytes of a segment. It leads to the next one, if it says that there is one.
+fn from_pointer(sliced: &Sliced, bytes: Span, starts: SegmentStarts) -> Option<Lead>
+    ensures { IfNone result (¬ IsLinked (bytes_of sliced.now.held.bytes) bytes starts sliced.now.place) }
 {
-    let offset = place.checked_sub(segment.fileoff)?;
-    let page_size = u64::from(segment.starts.page_size);
-    let page = u16::try_from(offset.checked_div(page_size)?).ok()?;
-    let pointer = ChainPointer::of(segment.starts.format, sliced.long(place));
-    let lead = Lead {
-        at: sliced.structure(
-            PartKind::ChainPointer,
-            place,
-            POINTER_SIZE,
-            Some(u32::from(page)),
-        ),
-        page,
-        next: offset.saturating_add(pointer.distance),
-    };
-    Some((lead, pointer))
+    if !bytes.holds(sliced.place) {
+        return None;
+    }
+    let offset = sliced.place - bytes.start;
+    let page = offset.checked_div(u64::from(starts.page_size))?;
+    let distance = ChainPointer::of(starts.format, sliced.long(sliced.place)).distance;
+    if page >= u64::from(starts.page_count) || distance == 0 {
+        return None;
+    }
+    Some(Lead {
+        at: pointer_part(sliced, starts, bytes.start),
+        page: page as u16,
+        next: offset.saturating_add(distance),
+    })
 }
 
 // The starts of the segment, which its entry describes.

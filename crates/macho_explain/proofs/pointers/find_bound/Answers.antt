@@ -1,18 +1,15 @@
-use Rattle.std.proofs.Common.{◌≡◌, ◌∙◌, ◌+◌, ◌<◌, ◌≤◌, ℕ, List, Option, None, Some, ap, arith, below_more, false, refl, slice_index, subst, sym}
+use Rattle.std.proofs.Common.{◌≡◌, ◌∙◌, ◌<◌, ◌≤◌, ℕ, List, Option, None, Some, ap, arith, below_more, refl, slice_index, subst, sym}
 use Rattle.std.specs.Prelude.{IsSomeAnd, MatchOption}
 use Rattle.std.proofs.lemmas.Bool.{false≢true}
 use Rattle.macho_chains.specs.ChainPointers.{pointer_of}
-use Rattle.macho_chains.specs.ChainStarts.{entry_offset, seg_count, starts_of}
+use Rattle.macho_chains.specs.ChainStarts.{entry_offset, seg_count}
 use Rattle.macho_chains.specs.declared.chain_starts.SegmentStarts.{SegmentStarts}
 use Rattle.macho_fields.specs.Bytes.{bytes_of}
 use Rattle.macho_fields.specs.Field.{field}
 use Rattle.macho_fields.specs.Segment.{all_segments, fileoff, filesize}
 use Rattle.macho_fields.specs.declared.bytes.Order.TheVariants.{Little}
-use Rattle.macho_spans.specs.Span.{Holds}
-use Rattle.macho_spans.specs.declared.span.Span.{Span}
 use Rattle.macho_tables.proofs.Found.{match_none}
 use Rattle.macho_tables.proofs.SegmentWalks.{passed_more, its_image, its_place}
-use Rattle.macho_tables.specs.Homes.{bytes_of_segment}
 use Rattle.macho_tables.specs.Items.{AtItem}
 use Rattle.macho_explain.specs.Explain.{long_at}
 use Rattle.macho_explain.specs.Fixups.{BindsMissing, HasStartsAt, IsEntryAt}
