@@ -1,3 +1,4 @@
+pub mod ElementWalks
 pub mod Blobs
 pub mod Fixups
 pub mod Found

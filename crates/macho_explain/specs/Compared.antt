@@ -36,6 +36,7 @@ use Rattle.macho_fields.specs.declared.header.reloc.TheConstants as reloc
 use Rattle.macho_image.specs.Command.{first_with_cmd}
 use Rattle.macho_image.specs.Symbol.{dysymtab_at, symbol_at}
 use Rattle.macho_explain.specs.Commanded.{HasEarlier, HasSection, HasWalkEnd, IsGroupPast, field_shown, group_shown, obsolete_counts}
+use Rattle.macho_explain.specs.Elements.{HasOverlap}
 use Rattle.macho_explain.specs.Entries.{HasEntry, HasEntryWith, HasForeign}
 use Rattle.macho_explain.specs.Explain.{all_loads, all_segment_loads, memory_of, IsCommandAt, IsUncounted, long_at, word_at}
 use Rattle.macho_explain.specs.Parts.{IsBefore, Share}
@@ -378,7 +379,7 @@ shown rule.FatStrayByte = OfFile HasByte (λ file place index c. IsByteShown fil
 shown rule.CommandsEnd = OfImage (λ image place. HasHeader image place × ¬ IsUncounted image) (λ image place c. c.limit ≡ 32 + word_at image 20)
 shown rule.HeaderSegment = OfImage HasHeader (λ image place c. c.value ≡ 32 + word_at image 20)
 shown rule.SegmentFileOverlap = OfImage (λ image place. HasSegment image place × HasEarlier (all_segment_loads image) (λ earlier. Shares (bytes_of_segment image earlier) (bytes_of_segment image place)) place) (λ image place c. Share c)
-shown rule.ElementOverlap = OfImage Unpromised (λ image place c. SharesOrPasses image c)
+shown rule.ElementOverlap = OfImage (λ image place. ¬ IsUncounted image × ((k : ℕ) × IsCommandAt image k place) × HasOverlap image place) (λ image place c. SharesOrPasses image c)
 shown rule.StrayByte = OfImage HasByte (λ image place c. IsByteShown image place c)
 shown rule.EncryptedRange = OfImage (λ image place. HasCommand image place × (command_cmd image place ≡ loader.LC_ENCRYPTION_INFO_64)) (λ image place c. (c.limit ≡ 32 + word_at image 20) ⊎ (c.limit ≡ 0) ⊎ IsFileEnd image c.limit)
 shown rule.CommandSlack = OfImage HasCommandByte (λ image place c. IsByteShown image place c)

@@ -2,6 +2,7 @@ pub mod Blobs
 pub mod Broken
 pub mod Commanded
 pub mod Compared
+pub mod Elements
 pub mod Entries
 pub mod Explain
 pub mod Explained

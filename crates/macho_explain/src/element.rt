@@ -1,9 +1,10 @@
 //! The rules of elements: the parts of an image that its structures describe.
 
-ghost use Rattle.std.specs.Prelude.{◌≡◌, ◌<◌, IfSome, Some};
+ghost use Rattle.std.specs.Prelude.{◌≡◌, ◌<◌, MatchOption, Some};
 ghost use Rattle.macho_fields.specs.Bytes.{bytes_of};
 ghost use Rattle.macho_fields.specs.declared.rule.Rule.{Rule};
 ghost use Rattle.macho_explain.specs.Compared.{SharesOrPasses};
+ghost use Rattle.macho_explain.specs.Elements.{AreFew, HasConflicting, IsConflicting, SharesBefore};
 ghost use Rattle.macho_explain.specs.Explained.{ExplainsIn, IsSpot};
 ghost use Rattle.macho_explain.specs.Parts.{Share, place_in_file};
 ghost use Rattle.macho_explain.specs.Explain.{IsWalked};
@@ -48,7 +49,9 @@ fn describing_spot(sliced: &Sliced, walked: &Walked) -> Spot
 
 // The conflict of the first element that is described at a place and has one.
 fn first_conflict(sliced: &Sliced, image: &Image, place: u64) -> Option<Conflict>
-    ensures { IfSome result (SharesOrPasses (bytes_of sliced.now.held.bytes)) }
+    requires { image.now ≡ bytes_of sliced.now.held.bytes }
+    ensures { MatchOption result (AreFew image.now → ¬ HasConflicting image.now place)
+        (SharesOrPasses (bytes_of sliced.now.held.bytes)) }
 {
     let mut index: u64 = 0;
     for element in Elements::of(image) {
@@ -64,7 +67,9 @@ fn first_conflict(sliced: &Sliced, image: &Image, place: u64) -> Option<Conflict
 
 // What conflicts with the element with this index: an earlier one, or the end of the image.
 fn conflict_of(sliced: &Sliced, image: &Image, element: Element, index: u64) -> Option<Conflict>
-    ensures { IfSome result (SharesOrPasses (bytes_of sliced.now.held.bytes)) }
+    requires { image.now ≡ bytes_of sliced.now.held.bytes }
+    ensures { MatchOption result (AreFew image.now → ¬ IsConflicting image.now index element)
+        (SharesOrPasses (bytes_of sliced.now.held.bytes)) }
 {
     if let Some(conflict) = sharing_earlier(sliced, image, element, index) {
         return Some(conflict);
@@ -79,7 +84,7 @@ fn conflict_of(sliced: &Sliced, image: &Image, element: Element, index: u64) -> 
 
 // The first element before the one with this index that shares a byte with it.
 fn sharing_earlier(sliced: &Sliced, image: &Image, element: Element, index: u64) -> Option<Conflict>
-    ensures { IfSome result Share }
+    ensures { MatchOption result (AreFew image.now → ¬ SharesBefore image.now index element.span) Share }
 {
     let mut before: u64 = 0;
     for earlier in Elements::of(image) {
