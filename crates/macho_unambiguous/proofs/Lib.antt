@@ -6,3 +6,6 @@ mod FileModels
 mod ImageModels
 pub mod Platforms
 mod Bases
+pub mod SameNames
+pub mod NamedSegments
+pub mod NamedSections

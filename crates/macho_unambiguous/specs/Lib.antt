@@ -6,3 +6,4 @@ pub mod Files
 pub mod Sections
 pub mod Order
 pub mod Models
+pub mod Names

@@ -1,10 +1,11 @@
 -- Where a section breaks a rule, so that two readers see another section, or other bytes at an address. A section is
 -- named by the place of its segment and its own. (mach-o/loader.h: section_64)
-use Rattle.std.specs.Prelude.{◌≡◌, ◌≢◌, ℕ, ◌+◌, ◌<◌, ◌⊎◌, List, Any, true, bit_and}
+use Rattle.std.specs.Prelude.{◌≡◌, ◌≢◌, ℕ, ◌+◌, ◌≤◌, ◌<◌, ◌⊎◌, List, length, Any, true, bit_and}
 use Rattle.macho_fields.specs.Field.{part}
 use Rattle.macho_fields.specs.Image.{commands_of}
 use Rattle.macho_fields.specs.NonZero.{IsNonZero}
 use Rattle.macho_fields.specs.Segment.{all_segments, vmsize, section_address, section_size, section_flags, is_zero_fill, Supplies, source, File}
+use Rattle.macho_fields.specs.declared.header.loader.TheConstants as loader
 use Rattle.macho_image.specs.Segment.{sections_of, section_name, short_name}
 use Rattle.macho_spans.specs.Span.{Covers}
 use Rattle.macho_unambiguous.specs.Segments.{HasTail}
@@ -14,6 +15,11 @@ use Rattle.macho_unambiguous.specs.declared.sections.TheConstants as sections
 
 abbrev pub segment_name_of : List ℕ → ℕ → List ℕ
 segment_name_of image section = short_name image (section + 16)
+
+-- the section and its segment lie inside the image
+abbrev pub LieInside : List ℕ → ℕ × ℕ → Type 0
+LieInside image section =
+    (section.0 + loader.SEGMENT_COMMAND_64_SIZE ≤ length image) × (section.1 + loader.SECTION_64_SIZE ≤ length image)
 
 -- the 16 bytes of segname are not the segment's
 abbrev pub HasOtherSegment : List ℕ → ℕ × ℕ → Type 0
@@ -27,6 +33,10 @@ HasEarlierNames image section =
     × (section_name image earlier.1 ≡ section_name image section.1)
     × (segment_name_of image earlier.1 ≡ segment_name_of image section.1))
     (sections_of image (commands_of image))
+
+-- what two readers see of its names by themselves
+unfoldable pub IsMisnamed : List ℕ → ℕ × ℕ → Type 0
+IsMisnamed image section = HasTail image section.1 ⊎ HasOtherSegment image section
 
 abbrev pub HasBadName : List ℕ → ℕ × ℕ → Type 0
 HasBadName image section =

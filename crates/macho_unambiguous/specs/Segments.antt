@@ -1,6 +1,6 @@
 -- Where a segment breaks a rule, so that two readers see other bytes, another protection or another segment.
 -- (mach-o/loader.h: segment_command_64; mach/vm_prot.h)
-use Rattle.std.specs.Prelude.{◌≡◌, ◌≢◌, ℕ, ◌+◌, ◌%◌, ◌<◌, ◌⊎◌, List, length, find, Any, Contains, Some, bit_and}
+use Rattle.std.specs.Prelude.{◌≡◌, ◌≢◌, ℕ, ◌+◌, ◌%◌, ◌<◌, ◌⊎◌, List, length, find, Any, Contains, Option, Some, bit_and}
 use Rattle.macho_fields.specs.Image.{cpu_type}
 use Rattle.macho_fields.specs.NonZero.{HasNonZero}
 use Rattle.macho_fields.specs.Segment.{all_segments, vmaddr, vmsize, fileoff, filesize, initprot, shows_start}
@@ -64,14 +64,18 @@ HasEarlierName image segment =
     Any (λ earlier. (earlier < segment)
     × (segment_name image earlier ≡ segment_name image segment)) (all_segments image)
 
--- the base of the image is the address of this segment
-abbrev pub HasBase : List ℕ → ℕ → Type 0
-HasBase image segment = find (shows_start image) (all_segments image) ≡ Some segment
+-- the segment is named __TEXT and is not this one, which has the base, or the reverse
+abbrev pub IsTextBut : Option ℕ → List ℕ → ℕ → Type 0
+IsTextBut base image segment =
+    (IsText image segment × ¬ (base ≡ Some segment)) ⊎ ((base ≡ Some segment) × ¬ IsText image segment)
 
 -- the segment is named __TEXT and does not have the base, or the reverse
 abbrev pub IsOtherText : List ℕ → ℕ → Type 0
-IsOtherText image segment =
-    (IsText image segment × ¬ HasBase image segment) ⊎ (HasBase image segment × ¬ IsText image segment)
+IsOtherText image segment = IsTextBut (find (shows_start image) (all_segments image)) image segment
+
+-- what two readers see of the name of the segment by itself
+abbrev pub IsMisnamedBut : Option ℕ → List ℕ → ℕ → Type 0
+IsMisnamedBut base image segment = HasTail image (segment + 8) ⊎ IsTextBut base image segment
 
 abbrev pub IsMisnamed : List ℕ → ℕ → Type 0
 IsMisnamed image segment =

@@ -7,6 +7,7 @@ pub mod commands;
 pub mod entry;
 pub mod files;
 pub mod law;
+pub mod names;
 pub mod once;
 pub mod pages;
 pub mod sections;
