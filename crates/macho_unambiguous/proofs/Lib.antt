@@ -9,3 +9,4 @@ mod Bases
 pub mod SameNames
 pub mod NamedSegments
 pub mod NamedSections
+pub mod SlicePages

@@ -11,6 +11,8 @@ use Rattle.macho_fields.specs.declared.header.fat.TheConstants as fat
 use Rattle.macho_fields.specs.declared.header.fat.fat_header.TheConstants.{NFAT_ARCH}
 use Rattle.macho_fields.specs.declared.header.loader.TheConstants as loader
 use Rattle.macho_fields.specs.declared.header.machine.TheConstants as machine
+use Rattle.macho_spans.specs.Overlap.{span_at}
+use Rattle.macho_spans.specs.declared.span.Span.{Span}
 use Rattle.macho_unambiguous.specs.Pages.{page_size, page_end}
 use Rattle.macho_unambiguous.specs.declared.files.TheConstants as files
 
@@ -100,6 +102,11 @@ abbrev pub pages_end : List ℕ → ℕ → ℕ
 pages_end file k =
     let slice = entry_slice file k in
     page_end (page_size (entry_cputype file k)) (slice.start + slice.size - 1)
+
+-- one of some spans begins past the start, and before the end
+abbrev pub BeginsWithin : List Span → ℕ → ℕ → Type 0
+BeginsWithin spans start end =
+    (i : ℕ) × (i < length spans) × (start < (span_at spans i).start) × ((span_at spans i).start < end)
 
 -- no page begins where the slice does
 abbrev pub BeginsOffPage : List ℕ → ℕ → Type 0

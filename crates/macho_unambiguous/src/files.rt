@@ -61,7 +61,7 @@ pub fn fat_header(verified: &Verified) -> Option<u64>
 }
 
 // The size in bytes of an entry of the table, or `None` if the file is not universal.
-fn entry_size(file: Bytes) -> Option<u64>
+pub(crate) fn entry_size(file: Bytes) -> Option<u64>
     ensures { MatchOption result (¬ IsUniversal (bytes_of file.entry))
         (λ size. IsUniversal (bytes_of file.entry) × (size ≡ entry_size_of (bytes_of file.entry))) }
 {
@@ -87,7 +87,7 @@ fn is_other_entry(verified: &Verified, index: u64, place: u64) -> bool
 }
 
 // The bytes of the slice of the entry with this index.
-fn bytes_of_slice<'a>(verified: &Verified<'a>, index: u64) -> Bytes<'a>
+pub(crate) fn bytes_of_slice<'a>(verified: &Verified<'a>, index: u64) -> Bytes<'a>
     requires universal { IsUniversal verified.now }
     requires entry { index < length (slices_of verified.now) }
     ensures { bytes_of result ≡ slice_bytes verified.now (entry_slice verified.now index) }
@@ -174,7 +174,7 @@ fn is_of_64_bits(cputype: u32) -> bool
 }
 
 // Whether the slice is read: it begins with the magic number of a 64-bit little-endian image.
-fn is_read(bytes: Bytes) -> bool
+pub(crate) fn is_read(bytes: Bytes) -> bool
     ensures { IsTrue result ↔ IsImage (bytes_of bytes.entry) }
 {
     bytes.u32_at(Order::Little, 0) == Some(MH_MAGIC_64)

@@ -12,3 +12,4 @@ pub mod once;
 pub mod pages;
 pub mod sections;
 pub mod segments;
+pub mod slice_pages;
