@@ -42,7 +42,7 @@ pub(crate) fn command_here(sliced: &Sliced) -> Option<(Spot, Walked)>
     Some((at.in_command(Some(walked.index)), walked))
 }
 
-// Where the walk over the commands finds none, and why: it ends past the commands, or its size is none of a command.
+// Where the walk over the commands finds none, and why: it ends past the commands, or no command has its size.
 #[inline(never)]
 pub(crate) fn command_walk(sliced: &Sliced) -> Option<Explanation>
     ensures { ExplainsIn Rule.CommandWalk sliced.now result }
