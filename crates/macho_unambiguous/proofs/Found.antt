@@ -44,7 +44,7 @@ module _ {X : Type 0} (place : X → ℕ) (P : X → Type 0) (breaks : ℕ → T
 -- Segments
 
 module _ (image : List ℕ) (opened : IsOpened image) {all : List SegmentView} (are : AreSegments image all) where
-  segments_rising : Rising (λ s. s.place) all
+  pub segments_rising : Rising (λ s. s.place) all
   segments_rising = subst (Rising (λ (s : SegmentView). s.place)) (sym are) (ordered_map (λ (s t : SegmentView). s.place ≤ t.place) (segment_at image) (all_segments image) (segments_rise image opened))
 
   segments_break : (P : List ℕ → ℕ → Type 0) → AreBreaks (λ p. Contains (all_segments image) p × P image p) (λ s. s.place) (λ s. P s.image s.place) all

@@ -10,3 +10,4 @@ pub mod SameNames
 pub mod NamedSegments
 pub mod NamedSections
 pub mod SlicePages
+pub mod Lasts

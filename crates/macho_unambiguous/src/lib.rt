@@ -9,6 +9,7 @@ pub mod files;
 pub mod law;
 pub mod names;
 pub mod once;
+pub mod order;
 pub mod pages;
 pub mod sections;
 pub mod segments;
