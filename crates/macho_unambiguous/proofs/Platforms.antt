@@ -1,6 +1,6 @@
 -- The platforms of the commands of an image, as spans, and which of them is the first that an earlier command has.
 use Rattle.std.proofs.Common.{◌≡◌, ℕ, zero, suc, ◌+◌, ◌≤◌, ◌<◌, List, [], ◌∷◌, ◌++◌, map, length, get_or, slice_get, Any, Contains, Option, None, Some, Result, Ok, Err, OnErr, refl, sym, ap, ◌∙◌, subst, arith, inl, inr, le_refl}
-use Rattle.std.specs.Prelude.{IsSomeAnd}
+use Rattle.std.specs.Prelude.{IsSomeAnd, is_some, true}
 use Rattle.std.specs.Option.{option_map, option_map_or}
 use Rattle.std.specs.Iterator.{SkipsThenYields}
 use Rattle.std.proofs.lemmas.Bool.{cases_order}
@@ -20,7 +20,7 @@ use Rattle.macho_spans.specs.Overlap.{span_at, SharesEarlier, IsLeastSharing}
 use Rattle.macho_spans.specs.Span.{Shares}
 use Rattle.macho_spans.specs.declared.span.Span.{Span}
 use Rattle.macho_tables.proofs.Found.{Steps, commands_yield}
-use Rattle.macho_unambiguous.specs.Commands.{platform_of, platform_span, RepeatsPlatform}
+use Rattle.macho_unambiguous.specs.Commands.{platform_of, platform_span, RepeatsPlatform, HasPlatform, FollowsPlatform, HasSeveralPlatforms}
 
 abbrev no_span : Span
 no_span = record { start = 0; len = 0 }
@@ -162,3 +162,16 @@ some_commands image all are v (k, less, _) = omega (arith, less, ap length are, 
 pub if_err : {T E : Type 0} (answer : Result T E) (P : Type 0) → P → OnErr answer P
 if_err (Ok x) P here = tt
 if_err (Err e) P here = here
+
+-- Where no two commands have a platform, none repeats one
+
+has_one : (o : Option ℕ) (P : ℕ → Type 0) → IsSomeAnd o P → (is_some o ≡ true) × ((p : ℕ) × (o ≡ Some p) × P p)
+has_one None P wrong = absurd wrong
+has_one (Some p) P here = (refl, (p, refl, here))
+
+pub alone : (image : List ℕ) → ¬ HasSeveralPlatforms image → IsLeastPlace (λ place. Contains (commands_of image) place × RepeatsPlatform image place) None
+unfolding FollowsPlatform
+alone image none place (has, repeats) =
+    let (some, (p, is, any)) = has_one (platform_of image place) (λ q. Any (λ earlier. (earlier < place) × (platform_of image earlier ≡ Some q)) (commands_of image)) repeats in
+    let (earlier, among, (less, same)) = one_of (λ e. (e < place) × (platform_of image e ≡ Some p)) (commands_of image) any in
+    none (any_of (FollowsPlatform image) (commands_of image) place has (some, any_of (λ e. (e < place) × HasPlatform image e) (commands_of image) earlier among (less, ap is_some same)))

@@ -1,5 +1,5 @@
 -- Which slice begins in the pages of another one.
-use Rattle.std.proofs.Common.{◌≡◌, ◌↔◌, ℕ, suc, ◌+◌, ◌-◌, ◌*◌, ◌/◌, ◌^◌, ◌≤◌, ◌<◌, ◌%◌, ◌≢◌, ◌⊎◌, ◌==◌, min, List, [], ◌∷◌, ◌++◌, take, drop, length, length-drop, Contains, Option, None, Some, IsTrue, Bool, true, refl, sym, ap, ◌∙◌, subst, arith, inl, inr}
+use Rattle.std.proofs.Common.{◌≡◌, ◌↔◌, ℕ, ◌+◌, ◌-◌, ◌*◌, ◌/◌, ◌^◌, ◌≤◌, ◌<◌, ◌%◌, ◌≢◌, ◌==◌, min, List, [], ◌∷◌, ◌++◌, take, drop, length, length-drop, None, Some, IsTrue, Bool, true, refl, sym, ap, ◌∙◌, subst, arith, inl, inr}
 use Rattle.std.specs.Prelude.{IsPermutation}
 use Rattle.std.specs.List.Sorted.{IsNonDecreasingBy}
 use Rattle.std.proofs.lemmas.Bool.{cases_Bool, cases_lt}
@@ -13,7 +13,7 @@ use Rattle.macho_spans.specs.Overlap.{span_at, IsLastBy}
 use Rattle.macho_spans.specs.declared.span.Span.{Span}
 use Rattle.macho_strict.specs.Verdict.{slice_spans}
 use Rattle.macho_strict.proofs.SliceSpans.{span_found}
-use Rattle.macho_unambiguous.specs.Files.{entry_bytes, BeginsWithin, SharesPage, BeginsOffPage, IsOffPages, entry_cputype, pages_end}
+use Rattle.macho_unambiguous.specs.Files.{entry_bytes, BeginsWithin, SharesPage, IsOffPages, entry_cputype, pages_end}
 use Rattle.macho_unambiguous.specs.Pages.{page_size, page_end}
 
 -- Pages

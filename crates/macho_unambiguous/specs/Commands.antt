@@ -94,6 +94,20 @@ RepeatsPlatform image command =
     Any (λ earlier. (earlier < command) × (platform_of image earlier ≡ Some platform))
     (commands_of image))
 
+-- Whether there is more than one platform
+
+abbrev pub HasPlatform : List ℕ → ℕ → Type 0
+HasPlatform image command = is_some (platform_of image command) ≡ true
+
+-- the command has versions of a platform, and so has an earlier one
+unfoldable pub FollowsPlatform : List ℕ → ℕ → Type 0
+FollowsPlatform image command =
+    HasPlatform image command
+    × Any (λ earlier. (earlier < command) × HasPlatform image earlier) (commands_of image)
+
+abbrev pub HasSeveralPlatforms : List ℕ → Type 0
+HasSeveralPlatforms image = Any (FollowsPlatform image) (commands_of image)
+
 -- the rule command-once, at the place of a command
 abbrev pub BreaksCommandOnce : List ℕ → ℕ → Type 0
 BreaksCommandOnce image place =

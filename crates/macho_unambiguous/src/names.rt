@@ -22,7 +22,7 @@ pub(crate) struct Named<'a> {
     pub(crate) place: u64,
 }
 
-// The least place of an item whose names are those of an item at a lesser place. For n items it takes time in the order of
+// The least place of an item with the names of an item at a lesser place. For n items it takes time in the order of
 // n log n, and no memory: it sorts the items by their names.
 pub(crate) fn least_repeated(items: &mut [Named]) -> Option<u64>
     ensures { IsLeastPlace (RepeatsNames items.old) result }

@@ -1,11 +1,11 @@
 //! The rule of the commands that readers expect once. (`mach-o/loader.h`)
 
-ghost use Rattle.std.specs.Prelude.{◌≡◌, ◌+◌, ◌≤◌, ◌<◌, ◌↔◌, Contains, IfOk, OnOk, OnErr, IsTrue, length, map};
+ghost use Rattle.std.specs.Prelude.{◌≡◌, ◌+◌, ◌≤◌, ◌<◌, ◌↔◌, Contains, IfOk, OnOk, OnErr, IsTrue, length, map, Any};
 ghost use Rattle.macho_fields.specs.FirstPlace.{IsLeastPlace};
 ghost use Rattle.macho_fields.specs.Image.{commands_of};
 ghost use Rattle.macho_image.specs.Command.{command_of};
 ghost use Rattle.macho_image.specs.Opened.{IsOpened, IsCommandOf};
-ghost use Rattle.macho_unambiguous.specs.Commands.{is_single as is_single_of, version_platform as version_platform_of, platform_of, platform_span as platform_span_of, RepeatsCmd, RepeatsSingle, RepeatsPlatform, BreaksCommandOnce};
+ghost use Rattle.macho_unambiguous.specs.Commands.{is_single as is_single_of, version_platform as version_platform_of, platform_of, platform_span as platform_span_of, RepeatsCmd, RepeatsSingle, RepeatsPlatform, HasPlatform, FollowsPlatform, HasSeveralPlatforms, BreaksCommandOnce};
 
 use macho_fields::header::loader::build_version_command::PLATFORM;
 use macho_fields::header::loader::{
@@ -21,10 +21,11 @@ use macho_tables::place::{lesser, place_of};
 use std::alloc::{AllocError, Global};
 
 /// The place of the first command that readers expect once, if an earlier command has the same `cmd`, or has versions of
-/// the same platform. For n commands it takes time in the order of n log n, and memory for each, to sort their platforms.
+/// the same platform. For n commands it takes time in the order of n log n, and memory for each only if several have a
+/// platform, to sort these.
 pub fn command_once(alloc: Global, image: &Image) -> Result<Option<u64>, AllocError>
     ensures least { IfOk result (IsLeastPlace (BreaksCommandOnce image.now)) }
-    ensures memory { OnErr result (0 < length (commands_of image.now)) }
+    ensures memory { OnErr result (HasSeveralPlatforms image.now) }
 {
     let single = single_repeated(image);
     let platform = platform_repeated(alloc, image)?;
@@ -81,13 +82,51 @@ fn repeats_earlier(image: &Image, command: &Command) -> bool
 fn platform_repeated(alloc: Global, image: &Image) -> Result<Option<u64>, AllocError>
     ensures least { IfOk result (IsLeastPlace (λ place.
         Contains (commands_of image.now) place × RepeatsPlatform image.now place)) }
-    ensures memory { OnErr result (0 < length (commands_of image.now)) }
+    ensures memory { OnErr result (HasSeveralPlatforms image.now) }
 {
+    if !has_several_platforms(image) {
+        return Ok(None);
+    }
     let platforms = platforms(alloc, image)?;
     let Some(index) = platforms.least_overlap() else {
         return Ok(None);
     };
     Ok(place_of(image.commands().nth(index as usize)))
+}
+
+// Whether several commands have versions of a platform.
+fn has_several_platforms(image: &Image) -> bool
+    ensures { IsTrue result ↔ HasSeveralPlatforms image.now }
+{
+    image
+        .commands()
+        .any(|command| follows_platform(image, &command))
+}
+
+// Whether the command has versions of a platform, and so has an earlier one. Only the first command with a platform has
+// none before it, so the work of all is linear.
+#[tactic(auto, unfolding(crate::specs::Commands::FollowsPlatform))]
+fn follows_platform(image: &Image, command: &Command) -> bool
+    requires { IsCommandOf image.now (command_of command.now) }
+    ensures { IsTrue result ↔ FollowsPlatform image.now command.now.place }
+{
+    has_platform(image, command) && has_earlier_platform(image, command.place)
+}
+
+// Whether a command at a lesser place has versions of a platform.
+fn has_earlier_platform(image: &Image, place: u64) -> bool
+    ensures { IsTrue result ↔ Any (λ earlier. (earlier < place) × HasPlatform image.now earlier)
+        (commands_of image.now) }
+{
+    image.commands().any(|earlier| earlier.place < place && has_platform(image, &earlier))
+}
+
+// Whether the command has versions of a platform.
+fn has_platform(image: &Image, command: &Command) -> bool
+    requires { IsCommandOf image.now (command_of command.now) }
+    ensures { IsTrue result ↔ HasPlatform image.now command.now.place }
+{
+    platform(image, command).is_some()
 }
 
 // The platforms of all commands, as spans that share a place exactly if the platforms are the same.

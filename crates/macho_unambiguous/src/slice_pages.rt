@@ -17,8 +17,8 @@ use macho_rules::Verified;
 use macho_spans::{SpanList, SpansByStart};
 use std::alloc::{AllocError, Global};
 
-/// The place of the first entry whose slice is read, and does not begin with a page or has a page in which another slice
-/// begins. For n slices it takes time in the order of n log n, and memory for each if the file is universal.
+/// The place of the first entry whose slice is read, and does not begin with a page, or has a page in which another
+/// slice begins. For n slices it takes time in the order of n log n, and memory for each if the file is universal.
 pub fn fat_page(alloc: Global, verified: &Verified) -> Result<Option<u64>, AllocError>
     ensures least { IfOk result (IsLeastPlace (BreaksFatPage verified.now)) }
     ensures memory { OnErr result (IsUniversal verified.now) }

@@ -1,4 +1,4 @@
-use Rattle.std.proofs.Common.{◌≡◌, ◌∙◌, ◌++◌, ◌≤◌, List, [], ◌∷◌, refl, sym, subst}
+use Rattle.std.proofs.Common.{◌∙◌, ◌++◌, ◌≤◌, List, [], ◌∷◌, refl, sym, subst}
 use Rattle.std.proofs.lemmas.Bool.{false≢true}
 use Rattle.macho_fields.specs.Image.{commands_of}
 use Rattle.macho_image.specs.Command.{CommandView, command_of, command_at}

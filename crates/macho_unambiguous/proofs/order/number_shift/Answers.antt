@@ -1,4 +1,4 @@
-use Rattle.std.proofs.Common.{ℕ, Contains, sym, subst, rules, tests}
+use Rattle.std.proofs.Common.{sym, subst, rules, tests}
 use Rattle.macho_fields.specs.FirstPlace.{IsLeastPlace}
 use Rattle.macho_image.specs.Command.{CommandView}
 use Rattle.macho_tables.proofs.Found.{each_command, first_command}

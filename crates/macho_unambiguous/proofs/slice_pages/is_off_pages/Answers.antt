@@ -1,4 +1,4 @@
-use Rattle.std.proofs.Common.{◌≡◌, ◌≢◌, ◌+◌, ◌%◌, ℕ, subst, length, sym, ap, ◌∙◌, arith}
+use Rattle.std.proofs.Common.{◌≡◌, ◌≢◌, ◌+◌, ◌%◌, ℕ, subst, length, ap, ◌∙◌, arith}
 use Rattle.macho_fields.specs.Field.{number}
 use Rattle.macho_fields.specs.Universal.{entry_place}
 use Rattle.macho_fields.specs.declared.bytes.Order.TheVariants.{Big}

@@ -3,7 +3,7 @@ use Rattle.std.proofs.lemmas.Bool.{cases_lt, false≢true}
 use Rattle.std.proofs.lemmas.Bool.{ltb-true, lt-ltb}
 use Rattle.macho_spans.specs.Overlap.{sorted_spans}
 use Rattle.macho_unambiguous.specs.Pages.{page_size, page_end}
-use Rattle.macho_unambiguous.proofs.SlicePages.{page_last, page_fits, within_last, none_within, none_by}
+use Rattle.macho_unambiguous.proofs.SlicePages.{page_last, within_last, none_within, none_by}
 use Rattle.macho_unambiguous.proofs.slice_pages.shares_page.Goals as goal
 
 pub returns-in-Some : goal.returns-in-Some
