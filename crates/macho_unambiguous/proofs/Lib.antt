@@ -11,3 +11,4 @@ pub mod NamedSegments
 pub mod NamedSections
 pub mod SlicePages
 pub mod Lasts
+pub mod Numbers

@@ -1,6 +1,6 @@
 -- The answers of readers, question by question, and that all of them agree. A model of a reader is a relation between a
 -- question and an answer. It may have none: a reader that refuses shows no other program.
-use Rattle.std.specs.Prelude.{◌≡◌, ℕ, ◌+◌, ◌%◌, ◌≤◌, ◌<◌, ◌⊎◌, ◌↔◌, List, length, Contains, Some, IsSomeAnd, bit_and, true}
+use Rattle.std.specs.Prelude.{◌≡◌, ℕ, ◌+◌, ◌%◌, ◌≤◌, ◌<◌, ◌==◌, ◌&&◌, ◌⊎◌, ◌↔◌, nat_lt, not, filter, List, length, Contains, Some, IsSomeAnd, bit_and, true}
 use Rattle.macho_fields.specs.Field.{number, field}
 use Rattle.macho_fields.specs.Image.{command_cmd, commands_of}
 use Rattle.macho_fields.specs.Segment.{all_segments, base_of, vmaddr, vmsize, initprot, entryoff, shows_start}
@@ -11,10 +11,12 @@ use Rattle.macho_fields.specs.declared.header.fat.TheConstants as fat
 use Rattle.macho_fields.specs.declared.header.loader.TheConstants as loader
 use Rattle.macho_image.specs.Header.{IsKind}
 use Rattle.macho_image.specs.Segment.{sections_of, maxprot, section_name, segment_name}
-use Rattle.macho_tables.specs.Segments.{IsText}
+use Rattle.macho_tables.specs.Limits.{loads_library}
+use Rattle.macho_tables.specs.Segments.{IsText, is_writable}
 use Rattle.macho_unambiguous.specs.Commands.{is_single, platform_of}
 use Rattle.macho_unambiguous.specs.Entry.{is_entry, IsFilePlace, SaysEntry, IsDataAt, data_entries}
 use Rattle.macho_unambiguous.specs.Files.{entry_bytes, entry_cputype, entry_cpusubtype, header_order, is_wide, is_judged, is_of_64_bits}
+use Rattle.macho_unambiguous.specs.Order.{IsEager}
 use Rattle.macho_unambiguous.specs.Sections.{segment_name_of}
 use Rattle.macho_unambiguous.specs.Segments.{HasTail}
 
@@ -175,6 +177,40 @@ abbrev pub HasOnePlatform : List ℕ → Type 0
 HasOnePlatform image =
     (platform : ℕ)
     → Agree (IsEndWith (commands_of image) (λ command. platform_of image command ≡ Some platform))
+
+-- Which number has a segment that can be written, by which fixups name it? How many segments are before it (the
+-- verifier), or how many mapped ones (dyld, before chained fixups).
+
+abbrev pub earlier_segments : List ℕ → ℕ → List ℕ
+earlier_segments image segment = filter (λ earlier. nat_lt earlier segment) (all_segments image)
+
+abbrev pub IsNumberOfSegment : List ℕ → ℕ → ℕ → Type 0
+IsNumberOfSegment image segment answer =
+    (answer ≡ length (earlier_segments image segment))
+    ⊎ (answer ≡ length (filter (λ earlier. nat_lt 0 (vmsize image earlier)) (earlier_segments image segment)))
+
+abbrev pub HasOneNumberOfSegment : List ℕ → Type 0
+HasOneNumberOfSegment image =
+    (segment : ℕ) → Contains (all_segments image) segment → is_writable image segment ≡ true
+    → Agree (IsNumberOfSegment image segment)
+
+-- Which ordinal has a library that is loaded at once? One more than there are libraries before it (the verifier, LLVM),
+-- or libraries that are not loaded late (dyld).
+
+abbrev pub earlier_libraries : List ℕ → ℕ → List ℕ
+earlier_libraries image command =
+    filter (λ earlier. nat_lt earlier command && loads_library (command_cmd image earlier)) (commands_of image)
+
+abbrev pub IsOrdinalOf : List ℕ → ℕ → ℕ → Type 0
+IsOrdinalOf image command answer =
+    (answer ≡ length (earlier_libraries image command) + 1)
+    ⊎ (answer ≡ length (filter (λ earlier. not (command_cmd image earlier == loader.LC_LAZY_LOAD_DYLIB))
+    (earlier_libraries image command)) + 1)
+
+abbrev pub HasOneOrdinal : List ℕ → Type 0
+HasOneOrdinal image =
+    (command : ℕ) → Contains (commands_of image) command → IsEager (command_cmd image command)
+    → Agree (IsOrdinalOf image command)
 
 -- Where does the program begin? By the first of LC_MAIN and the threads, or by the last.
 

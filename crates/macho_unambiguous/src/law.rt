@@ -10,7 +10,8 @@ ghost use Rattle.macho_strict.specs.Rules.{BreaksStrictImage};
 ghost use Rattle.macho_unambiguous.specs.Commands.{BreaksCommandOnce};
 ghost use Rattle.macho_unambiguous.specs.Entry.{BreaksEntryOne};
 ghost use Rattle.macho_unambiguous.specs.Files.{BreaksFatCount, BreaksFatHeader};
-ghost use Rattle.macho_unambiguous.specs.Models.{HasOneKindOfFile, HasOneSubtype, HasOneSetOfSlices, HasOneProtection, HasOneSegmentOfName, HasOneBase, HasOneCommandOfKind, HasOnePlatform, HasOneSectionOfNames, HasOneEntry};
+ghost use Rattle.macho_unambiguous.specs.Models.{HasOneKindOfFile, HasOneSubtype, HasOneSetOfSlices, HasOneProtection, HasOneSegmentOfName, HasOneBase, HasOneCommandOfKind, HasOnePlatform, HasOneNumberOfSegment, HasOneOrdinal, HasOneSectionOfNames, HasOneEntry};
+ghost use Rattle.macho_unambiguous.specs.Order.{BreaksNumberShift};
 ghost use Rattle.macho_unambiguous.specs.Sections.{BreaksSectionName};
 ghost use Rattle.macho_unambiguous.specs.Segments.{BreaksSegmentProtection, BreaksSegmentName};
 
@@ -61,6 +62,18 @@ pub fn kind_has_one_command(image: &[u8])
 pub fn platform_has_one_command(image: &[u8])
     requires { (place : ℕ) → ¬ BreaksCommandOnce image.now place }
     ensures { HasOnePlatform image.now }
+{}
+
+/// All readers give a segment that can be written one number.
+pub fn segment_has_one_number(image: &[u8])
+    requires { (place : ℕ) → ¬ BreaksNumberShift image.now place }
+    ensures { HasOneNumberOfSegment image.now }
+{}
+
+/// All readers give a library that is loaded at once one ordinal.
+pub fn library_has_one_ordinal(image: &[u8])
+    requires { (place : ℕ) → ¬ BreaksNumberShift image.now place }
+    ensures { HasOneOrdinal image.now }
 {}
 
 /// All readers find one section with a name in a segment with a name.
