@@ -12,3 +12,4 @@ pub mod NamedSections
 pub mod SlicePages
 pub mod Lasts
 pub mod Numbers
+pub mod SliceBytes

@@ -1,10 +1,10 @@
 -- The answers of readers, question by question, and that all of them agree. A model of a reader is a relation between a
 -- question and an answer. It may have none: a reader that refuses shows no other program.
-use Rattle.std.specs.Prelude.{◌≡◌, ℕ, ◌+◌, ◌%◌, ◌≤◌, ◌<◌, ◌==◌, ◌&&◌, ◌⊎◌, ◌↔◌, nat_lt, not, filter, List, length, Contains, Some, IsSomeAnd, bit_and, true}
+use Rattle.std.specs.Prelude.{◌≡◌, ℕ, ◌+◌, ◌*◌, ◌/◌, ◌%◌, ◌≤◌, ◌<◌, ◌==◌, ◌&&◌, ◌⊎◌, ◌↔◌, nat_lt, not, filter, List, length, Contains, Some, IsSomeAnd, bit_and, true}
 use Rattle.macho_fields.specs.Field.{number, field}
 use Rattle.macho_fields.specs.Image.{command_cmd, commands_of}
 use Rattle.macho_fields.specs.Segment.{all_segments, base_of, vmaddr, vmsize, initprot, entryoff, shows_start}
-use Rattle.macho_fields.specs.Universal.{IsUniversal, IsImage, entry_count}
+use Rattle.macho_fields.specs.Universal.{IsUniversal, IsImage, HasPlace, entry_count, entry_slice}
 use Rattle.macho_fields.specs.declared.bytes.Order.TheVariants.{Big, Little}
 use Rattle.macho_fields.specs.declared.file_type.Kind.TheVariants as kind
 use Rattle.macho_fields.specs.declared.header.fat.TheConstants as fat
@@ -15,7 +15,8 @@ use Rattle.macho_tables.specs.Limits.{loads_library}
 use Rattle.macho_tables.specs.Segments.{IsText, is_writable}
 use Rattle.macho_unambiguous.specs.Commands.{is_single, platform_of}
 use Rattle.macho_unambiguous.specs.Entry.{is_entry, IsFilePlace, SaysEntry, IsDataAt, data_entries}
-use Rattle.macho_unambiguous.specs.Files.{entry_bytes, entry_cputype, entry_cpusubtype, header_order, is_wide, is_judged, is_of_64_bits}
+use Rattle.macho_unambiguous.specs.Files.{entry_bytes, entry_cputype, entry_cpusubtype, header_order, is_wide, is_judged, is_of_64_bits, pages_end}
+use Rattle.macho_unambiguous.specs.Pages.{page_size}
 use Rattle.macho_unambiguous.specs.Order.{IsEager}
 use Rattle.macho_unambiguous.specs.Sections.{segment_name_of}
 use Rattle.macho_unambiguous.specs.Segments.{HasTail}
@@ -97,6 +98,21 @@ abbrev pub HasOneSetOfSlices : List ℕ → Type 0
 HasOneSetOfSlices file =
     IsUniversal file → (cputype : ℕ) → is_judged cputype ≡ true → (k : ℕ) → k < entry_count file
     → TakeSameSlice file cputype k
+
+-- Which slice has a byte of the file? The one with its place (the verifier), or, of those that are read, the one in whose
+-- pages it is (a kernel, which maps them whole).
+
+abbrev pub IsInPages : List ℕ → ℕ → ℕ → Type 0
+IsInPages file k place =
+    let page = page_size (entry_cputype file k) in
+    IsImage (entry_bytes file k) × ((entry_slice file k).start / page * page ≤ place) × (place < pages_end file k)
+
+abbrev pub IsSliceOfByte : List ℕ → ℕ → ℕ → Type 0
+IsSliceOfByte file place k =
+    (k < entry_count file) × (HasPlace (entry_slice file k) place ⊎ IsInPages file k place)
+
+abbrev pub HasOneSliceOfByte : List ℕ → Type 0
+HasOneSliceOfByte file = IsUniversal file → (place : ℕ) → Agree (IsSliceOfByte file place)
 
 -- Which protection does a mapped segment have? initprot, or what of it maxprot and the three bits of vm_prot.h leave.
 

@@ -4,13 +4,13 @@
 
 ghost use Rattle.std.specs.Prelude.{ℕ, None};
 ghost use Rattle.macho_fields.specs.Layers.{NothingBreaks};
-ghost use Rattle.macho_fields.specs.Rules.{BreaksImage};
+ghost use Rattle.macho_fields.specs.Rules.{BreaksFile, BreaksImage};
 ghost use Rattle.macho_fields.specs.declared.rule.Rule.{Rule};
 ghost use Rattle.macho_strict.specs.Rules.{BreaksStrictImage};
 ghost use Rattle.macho_unambiguous.specs.Commands.{BreaksCommandOnce};
 ghost use Rattle.macho_unambiguous.specs.Entry.{BreaksEntryOne};
-ghost use Rattle.macho_unambiguous.specs.Files.{BreaksFatCount, BreaksFatHeader};
-ghost use Rattle.macho_unambiguous.specs.Models.{HasOneKindOfFile, HasOneSubtype, HasOneSetOfSlices, HasOneProtection, HasOneSegmentOfName, HasOneBase, HasOneCommandOfKind, HasOnePlatform, HasOneNumberOfSegment, HasOneOrdinal, HasOneSectionOfNames, HasOneEntry};
+ghost use Rattle.macho_unambiguous.specs.Files.{BreaksFatCount, BreaksFatHeader, BreaksFatPage};
+ghost use Rattle.macho_unambiguous.specs.Models.{HasOneKindOfFile, HasOneSubtype, HasOneSetOfSlices, HasOneSliceOfByte, HasOneProtection, HasOneSegmentOfName, HasOneBase, HasOneCommandOfKind, HasOnePlatform, HasOneNumberOfSegment, HasOneOrdinal, HasOneSectionOfNames, HasOneEntry};
 ghost use Rattle.macho_unambiguous.specs.Order.{BreaksNumberShift};
 ghost use Rattle.macho_unambiguous.specs.Sections.{BreaksSectionName};
 ghost use Rattle.macho_unambiguous.specs.Segments.{BreaksSegmentProtection, BreaksSegmentName};
@@ -31,6 +31,13 @@ pub fn slice_has_one_subtype(file: &[u8])
 pub fn processor_has_one_set_of_slices(file: &[u8])
     requires { (place : ℕ) → ¬ BreaksFatHeader file.now place }
     ensures { HasOneSetOfSlices file.now }
+{}
+
+/// All readers find a byte of the file in one slice.
+pub fn byte_has_one_slice(file: &[u8])
+    requires overlap { (place : ℕ) → ¬ BreaksFile file.now Rule.FatOverlap place }
+    requires page { (place : ℕ) → ¬ BreaksFatPage file.now place }
+    ensures { HasOneSliceOfByte file.now }
 {}
 
 /// All readers see one protection of a segment.
