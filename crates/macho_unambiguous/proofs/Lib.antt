@@ -13,3 +13,4 @@ pub mod SlicePages
 pub mod Lasts
 pub mod Numbers
 pub mod SliceBytes
+pub mod SectionsAlone

@@ -1,12 +1,11 @@
 -- A byte of the file is in one slice, and in the pages of that slice alone.
-use Rattle.std.proofs.Common.{◌≡◌, ℕ, ◌+◌, ◌*◌, ◌/◌, ◌%◌, ◌≤◌, ◌<◌, ◌⊎◌, ◌==◌, List, refl, sym, subst, arith, inl, inr}
+use Rattle.std.proofs.Common.{◌≡◌, ℕ, ◌*◌, ◌/◌, ◌%◌, ◌≤◌, ◌<◌, ◌==◌, List, refl, sym, subst, arith, inl, inr}
 use Rattle.std.proofs.lemmas.Bool.{cases_Bool, cases_eq, cases_order}
 use Rattle.macho_fields.specs.Rules.{BreaksFile}
-use Rattle.macho_fields.specs.Universal.{IsUniversal, IsImage, HasPlace, entry_count, entry_place, entry_slice}
+use Rattle.macho_fields.specs.Universal.{IsUniversal, HasPlace, entry_count, entry_place, entry_slice}
 use Rattle.macho_fields.specs.declared.header.machine.TheConstants as machine
-use Rattle.macho_fields.specs.declared.rule.Rule.{Rule}
 use Rattle.macho_fields.specs.declared.rule.Rule.TheVariants as rule
-use Rattle.macho_unambiguous.specs.Files.{BreaksFatPage, entry_bytes, entry_cputype, pages_end}
+use Rattle.macho_unambiguous.specs.Files.{BreaksFatPage, entry_cputype}
 use Rattle.macho_unambiguous.specs.Models.{IsInPages, IsSliceOfByte, HasOneSliceOfByte}
 use Rattle.macho_unambiguous.specs.Pages.{page_size}
 use Rattle.macho_unambiguous.proofs.SlicePages.{image_long}

@@ -1,9 +1,9 @@
 -- The answers of readers, question by question, and that all of them agree. A model of a reader is a relation between a
 -- question and an answer. It may have none: a reader that refuses shows no other program.
-use Rattle.std.specs.Prelude.{◌≡◌, ℕ, ◌+◌, ◌*◌, ◌/◌, ◌%◌, ◌≤◌, ◌<◌, ◌==◌, ◌&&◌, ◌⊎◌, ◌↔◌, nat_lt, not, filter, List, length, Contains, Some, IsSomeAnd, bit_and, true}
+use Rattle.std.specs.Prelude.{◌≡◌, ℕ, ◌+◌, ◌*◌, ◌/◌, ◌%◌, ◌≤◌, ◌<◌, ◌==◌, ◌&&◌, ◌⊎◌, ◌↔◌, nat_lt, not, filter, List, length, Any, Contains, Some, IsSomeAnd, bit_and, true}
 use Rattle.macho_fields.specs.Field.{number, field}
 use Rattle.macho_fields.specs.Image.{command_cmd, commands_of}
-use Rattle.macho_fields.specs.Segment.{all_segments, base_of, vmaddr, vmsize, initprot, entryoff, shows_start}
+use Rattle.macho_fields.specs.Segment.{all_segments, base_of, vmaddr, vmsize, initprot, entryoff, shows_start, Supplies}
 use Rattle.macho_fields.specs.Universal.{IsUniversal, IsImage, HasPlace, entry_count, entry_slice}
 use Rattle.macho_fields.specs.declared.bytes.Order.TheVariants.{Big, Little}
 use Rattle.macho_fields.specs.declared.file_type.Kind.TheVariants as kind
@@ -18,7 +18,7 @@ use Rattle.macho_unambiguous.specs.Entry.{is_entry, IsFilePlace, SaysEntry, IsDa
 use Rattle.macho_unambiguous.specs.Files.{entry_bytes, entry_cputype, entry_cpusubtype, header_order, is_wide, is_judged, is_of_64_bits, pages_end}
 use Rattle.macho_unambiguous.specs.Pages.{page_size}
 use Rattle.macho_unambiguous.specs.Order.{IsEager}
-use Rattle.macho_unambiguous.specs.Sections.{segment_name_of}
+use Rattle.macho_unambiguous.specs.Sections.{segment_name_of, IsDebug, HasAddress}
 use Rattle.macho_unambiguous.specs.Segments.{HasTail}
 
 -- any two answers are the same
@@ -99,8 +99,8 @@ HasOneSetOfSlices file =
     IsUniversal file → (cputype : ℕ) → is_judged cputype ≡ true → (k : ℕ) → k < entry_count file
     → TakeSameSlice file cputype k
 
--- Which slice has a byte of the file? The one with its place (the verifier), or, of those that are read, the one in whose
--- pages it is (a kernel, which maps them whole).
+-- Which slice has a byte of the file? The slice with its place (the verifier), or the slice that is read and has it in
+-- its pages (a kernel, which maps these whole).
 
 abbrev pub IsInPages : List ℕ → ℕ → ℕ → Type 0
 IsInPages file k place =
@@ -180,6 +180,26 @@ IsSectionOfNames image segment name answer =
 
 abbrev pub HasOneSectionOfNames : List ℕ → Type 0
 HasOneSectionOfNames image = (segment name : List ℕ) → Agree (IsSectionOfNames image segment name)
+
+-- Which section is at an address of a segment? The first that readers look for, the last, or the first of a mapped
+-- segment.
+
+abbrev pub IsLookedFor : List ℕ → ℕ → ℕ × ℕ → Type 0
+IsLookedFor image address section = (¬ IsDebug image section) × HasAddress image section address
+
+abbrev pub IsMappedAt : List ℕ → ℕ → ℕ × ℕ → Type 0
+IsMappedAt image address section = (0 < vmsize image section.0) × HasAddress image section address
+
+abbrev pub IsSectionAt : List ℕ → ℕ → ℕ → Type 0
+IsSectionAt image address answer =
+    IsFirstSectionWith image (IsLookedFor image address) answer
+    ⊎ (IsLastSectionWith image (IsLookedFor image address) answer
+    ⊎ IsFirstSectionWith image (IsMappedAt image address) answer)
+
+abbrev pub HasOneSectionAt : List ℕ → Type 0
+HasOneSectionAt image =
+    (address : ℕ) → Any (λ segment. Supplies image segment address) (all_segments image)
+    → Agree (IsSectionAt image address)
 
 -- Which is the dylinker, the encrypted range, .. of an image, and which command has the versions of a platform? The
 -- first, or the last.

@@ -10,9 +10,9 @@ ghost use Rattle.macho_strict.specs.Rules.{BreaksStrictImage};
 ghost use Rattle.macho_unambiguous.specs.Commands.{BreaksCommandOnce};
 ghost use Rattle.macho_unambiguous.specs.Entry.{BreaksEntryOne};
 ghost use Rattle.macho_unambiguous.specs.Files.{BreaksFatCount, BreaksFatHeader, BreaksFatPage};
-ghost use Rattle.macho_unambiguous.specs.Models.{HasOneKindOfFile, HasOneSubtype, HasOneSetOfSlices, HasOneSliceOfByte, HasOneProtection, HasOneSegmentOfName, HasOneBase, HasOneCommandOfKind, HasOnePlatform, HasOneNumberOfSegment, HasOneOrdinal, HasOneSectionOfNames, HasOneEntry};
+ghost use Rattle.macho_unambiguous.specs.Models.{HasOneKindOfFile, HasOneSubtype, HasOneSetOfSlices, HasOneSliceOfByte, HasOneProtection, HasOneSegmentOfName, HasOneBase, HasOneCommandOfKind, HasOnePlatform, HasOneNumberOfSegment, HasOneOrdinal, HasOneSectionOfNames, HasOneSectionAt, HasOneEntry};
 ghost use Rattle.macho_unambiguous.specs.Order.{BreaksNumberShift};
-ghost use Rattle.macho_unambiguous.specs.Sections.{BreaksSectionName};
+ghost use Rattle.macho_unambiguous.specs.Sections.{BreaksSectionName, BreaksSectionAlone};
 ghost use Rattle.macho_unambiguous.specs.Segments.{BreaksSegmentProtection, BreaksSegmentName};
 
 /// All readers see a universal file, and not a Java class.
@@ -87,6 +87,12 @@ pub fn library_has_one_ordinal(image: &[u8])
 pub fn names_have_one_section(image: &[u8])
     requires { (place : ℕ) → ¬ BreaksSectionName image.now place }
     ensures { HasOneSectionOfNames image.now }
+{}
+
+/// All readers find one section at an address of a segment.
+pub fn address_has_one_section(image: &[u8])
+    requires { (place : ℕ) → ¬ BreaksSectionAlone image.now place }
+    ensures { HasOneSectionAt image.now }
 {}
 
 /// All readers find one entry, at one byte of the file, which none of them shows as data.
