@@ -40,7 +40,7 @@ use Rattle.macho_explain.specs.Elements.{HasOverlap}
 use Rattle.macho_explain.specs.Entries.{HasEntry, HasEntryWith, HasForeign}
 use Rattle.macho_explain.specs.Explain.{all_loads, all_segment_loads, memory_of, IsCommandAt, IsUncounted, long_at, word_at}
 use Rattle.macho_explain.specs.Parts.{IsBefore, Share}
-use Rattle.macho_explain.specs.Seals.{IsRepeatShown, ShowsHash}
+use Rattle.macho_explain.specs.Seals.{HasOtherHashes, IsRepeatShown, ShowsHash}
 use Rattle.macho_explain.specs.Signatures.{IsBlobShown, IsLimitShown, IsSuperblobShown, IsUnsoundShown, ShowsSignature}
 use Rattle.macho_signature.specs.Signature.{bytes_at}
 use Rattle.macho_explain.specs.Blobs.{InSignature, IsBlobAt, IsDirectoryPlace, IsLimitAt, IsRepeatAt}
@@ -328,10 +328,6 @@ HasNodeWith P image place =
     Opens image
     × InTrie image place (λ trie offset. (offset ≤ length trie) × HasNode trie offset (λ terminal end. P image trie terminal))
 
--- that something is explained is not promised
-abbrev pub Unpromised : List ℕ → ℕ → Type 0
-Unpromised bytes place = ⊥
-
 -- What is shown: of a rule that is judged over the file, by the index of a slice; of one that is judged over each
 -- image. First what the rule is about, then what its numbers, and both parts, are.
 pub data Shown : Type 1 where
@@ -428,4 +424,4 @@ shown rule.SignatureMissing = OfImage HasStart (λ image place c. (place ≡ 0) 
 shown rule.SignatureExecutable = OfImage (λ image place. HasSegment image place × Opens image × IsSomeAnd (named_table image loader.LC_CODE_SIGNATURE) (Shares (bytes_of_segment image place))) (λ image place c. Share c)
 shown rule.DirectoryRepeated = OfImage (InSignature IsRepeatAt) (λ image place c. IsRepeatShown image place c.value × (c.limit ≡ c.value) × IsBefore c)
 shown rule.SignatureSlack = OfImage (λ image place. HasByte image place × InTable image loader.LC_CODE_SIGNATURE (λ start signature offset. Unit {0}) place) (λ image place c. IsByteShown image place c)
-shown rule.SignatureHash = OfImage Unpromised (λ image place c. ShowsHash image place c.value c.limit)
+shown rule.SignatureHash = OfImage HasOtherHashes (λ image place c. ShowsHash image place c.value c.limit)

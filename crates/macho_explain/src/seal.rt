@@ -1,14 +1,17 @@
 //! The rules of the sealed profile: of what in an image its code signature has the hashes. (`cs_blobs.h`:
 //! `CS_CodeDirectory`)
 
-ghost use Rattle.std.specs.Prelude.{◌≡◌, ◌≢◌, ◌+◌, ◌≤◌, ◌<◌, ℕ, length, IfNone, IfSome, true};
+ghost use Rattle.std.specs.Prelude.{◌≡◌, ◌≢◌, ◌+◌, ◌≤◌, ◌<◌, ℕ, length, IfNone, IfSome, IsSome, IsSomeAnd, Some, true};
 ghost use Rattle.macho_fields.specs.Bytes.{bytes_of};
 ghost use Rattle.macho_fields.specs.declared.rule.Rule.{Rule};
-ghost use Rattle.macho_sealed.specs.Specials.{is_special_slot as is_special_slot_of};
-ghost use Rattle.macho_signature.specs.CodeDirectories.{HasSlots};
+ghost use Rattle.macho_sealed.specs.Specials.{is_special_slot as is_special_slot_of, IsOtherSpecial, IsSpecialAt};
+ghost use Rattle.macho_sealed.specs.Pages.{page_at as page_of_directory, BadPage};
+ghost use Rattle.macho_signature.specs.CodeDirectories.{HasSlots, IsSoundDirectory};
+ghost use Rattle.macho_signature.specs.Signature.{bytes_at, IsDirectoryAt};
 ghost use Rattle.macho_signature.specs.Superblobs.{blob_at, blob_count, blob_end, AreGoodBlobs};
 ghost use Rattle.macho_explain.specs.Explained.{ExplainsIn};
-ghost use Rattle.macho_explain.specs.Seals.{IsDirectoryOf, IsHashed, IsHashShown, IsOtherShown, IsPageShown, IsSpecialShown, place_of};
+ghost use Rattle.macho_explain.specs.Seals.{HasDiffering, HasOtherHash, IsDirectoryOf, IsHashed, IsHashShown, IsOther, IsOtherShown, IsPageShown, IsSpecialShown, place_of};
+ghost use Rattle.macho_explain.specs.declared.seal.Hashed.TheVariants.{Special as of_special};
 
 use crate::conflict::Conflict;
 use crate::explanation::Explanation;
@@ -109,20 +112,35 @@ pub(crate) fn signature_hash(sliced: &Sliced) -> Option<Explanation>
     ensures { ExplainsIn Rule.SignatureHash sliced.now result }
 {
     let signature = signature_of(sliced)?;
-    let hashed = match sliced.place.checked_sub(signature.table.span.start) {
-        Some(offset) => special_at(&signature, offset)?,
-        None => Hashed::Page(sliced.place),
-    };
+    let hashed = hashed_at(sliced, &signature)?;
     let conflict = first_other_hash(sliced, &signature, hashed)?;
     Some(sliced.at(conflict.first?).shows(conflict))
+}
+
+// What code directories may have a hash of, at the place: a page before the signature, or a blob in it.
+fn hashed_at(sliced: &Sliced, signature: &Signature) -> Option<Hashed>
+    ensures hashed { IfSome result (IsHashed (bytes_of signature.now.bytes)) }
+    ensures place { IfSome result (λ hashed. place_of signature.now.table.span.start hashed ≡ sliced.now.place) }
+    ensures other { HasOtherHash (bytes_of sliced.now.held.bytes) signature.now.table.span (bytes_of signature.now.bytes)
+        sliced.now.place → IsSomeAnd result (λ hashed. HasDiffering
+        (IsOther (bytes_of sliced.now.held.bytes) (bytes_of signature.now.bytes) hashed)
+        signature.now.table.span.start (bytes_of signature.now.bytes)) }
+{
+    match sliced.place.checked_sub(signature.table.span.start) {
+        Some(offset) => special_at(signature, offset),
+        None => Some(Hashed::Page(sliced.place)),
+    }
 }
 
 // The first blob in a special slot that begins at an offset of a signature.
 fn special_at(signature: &Signature, offset: u64) -> Option<Hashed>
     ensures hashed { IfSome result (IsHashed (bytes_of signature.now.bytes)) }
     ensures place { IfSome result (λ hashed. (start : ℕ) → place_of start hashed ≡ start + offset) }
+    ensures only { AreGoodBlobs (bytes_of signature.now.bytes) → (k : ℕ) → k < blob_count (bytes_of signature.now.bytes)
+        → (blob_at (bytes_of signature.now.bytes) k).offset ≡ offset → IsSpecialAt (bytes_of signature.now.bytes) k
+        → result ≡ Some (of_special k (blob_at (bytes_of signature.now.bytes) k)) }
 {
-    for index in 0..u32::MAX {
+    for index in 0..Superblob::read(signature.bytes)?.count {
         let blob = signature.placed_blob(index)?;
         if u64::from(blob.offset) == offset && is_special_slot(blob.slot) {
             return Some(Hashed::Special(index, blob));
@@ -133,12 +151,17 @@ fn special_at(signature: &Signature, offset: u64) -> Option<Hashed>
 
 // What conflicts with the first code directory of a signature that has another hash.
 fn first_other_hash(sliced: &Sliced, signature: &Signature, hashed: Hashed) -> Option<Conflict>
-    requires { IsHashed (bytes_of signature.now.bytes) hashed }
-    ensures { IfSome result (λ c. IsHashShown (bytes_of sliced.now.held.bytes) signature.now.table.span.start
+    requires hashed { IsHashed (bytes_of signature.now.bytes) hashed }
+    requires inside { signature.now.table.span.start ≤ length (bytes_of sliced.now.held.bytes) }
+    ensures none { IfNone result (¬ HasDiffering
+        (IsOther (bytes_of sliced.now.held.bytes) (bytes_of signature.now.bytes) hashed)
+        signature.now.table.span.start (bytes_of signature.now.bytes)) }
+    ensures first { IfSome result (λ c. IsSome c.first) }
+    ensures shown { IfSome result (λ c. IsHashShown (bytes_of sliced.now.held.bytes) signature.now.table.span.start
         (bytes_of signature.now.bytes) (place_of signature.now.table.span.start hashed) c.value c.limit) }
 {
     let mut left = MOST_DIRECTORIES;
-    for index in 0..u32::MAX {
+    for index in 0..Superblob::read(signature.bytes)?.count {
         let blob = signature.placed_blob(index)?;
         if let Some(directory) = directory_of(signature, index, blob) {
             left = left.checked_sub(1)?;
@@ -165,7 +188,10 @@ struct Directory<'a> {
 fn directory_of<'a>(signature: &Signature<'a>, index: u32, blob: Blob) -> Option<Directory<'a>>
     requires blob { blob ≡ blob_at (bytes_of signature.now.bytes) index }
     requires inside { blob_end blob ≤ length (bytes_of signature.now.bytes) }
-    ensures { IfSome result (IsDirectoryOf signature.now.table.span.start (bytes_of signature.now.bytes)) }
+    ensures some { IfSome result (IsDirectoryOf signature.now.table.span.start (bytes_of signature.now.bytes)) }
+    ensures index { IfSome result (λ directory. directory.index ≡ index) }
+    ensures none { IfNone result (¬ (IsDirectoryAt (bytes_of signature.now.bytes) index
+        × IsSoundDirectory signature.now.table.span.start (bytes_at (bytes_of signature.now.bytes) index))) }
 {
     let bytes = signature.bytes.slice(blob.span());
     let fields = CodeDirectory::read(bytes)?;
@@ -189,7 +215,11 @@ fn other_hash(
 ) -> Option<Conflict>
     requires directory { IsDirectoryOf signature.now.table.span.start (bytes_of signature.now.bytes) directory.now }
     requires hashed { IsHashed (bytes_of signature.now.bytes) hashed }
-    ensures { IfSome result (λ c. IsOtherShown (bytes_of sliced.now.held.bytes) signature.now.table.span.start
+    requires inside { signature.now.table.span.start ≤ length (bytes_of sliced.now.held.bytes) }
+    ensures none { IfNone result (¬ IsOther (bytes_of sliced.now.held.bytes) (bytes_of signature.now.bytes) hashed
+        (bytes_of directory.now.bytes) directory.now.fields) }
+    ensures first { IfSome result (λ c. IsSome c.first) }
+    ensures shown { IfSome result (λ c. IsOtherShown (bytes_of sliced.now.held.bytes) signature.now.table.span.start
         (bytes_of signature.now.bytes) (bytes_of directory.now.bytes) directory.now.fields
         (place_of signature.now.table.span.start hashed) c.value c.limit) }
 {
@@ -206,8 +236,12 @@ fn other_page(
     directory: &Directory,
     place: u64,
 ) -> Option<Conflict>
-    requires { IsDirectoryOf signature.now.table.span.start (bytes_of signature.now.bytes) directory.now }
-    ensures { IfSome result (λ c. IsPageShown (bytes_of sliced.now.held.bytes) (bytes_of directory.now.bytes)
+    requires directory { IsDirectoryOf signature.now.table.span.start (bytes_of signature.now.bytes) directory.now }
+    requires inside { signature.now.table.span.start ≤ length (bytes_of sliced.now.held.bytes) }
+    ensures none { IfNone result (¬ BadPage (bytes_of sliced.now.held.bytes) (bytes_of directory.now.bytes)
+        directory.now.fields place) }
+    ensures first { IfSome result (λ c. IsSome c.first) }
+    ensures shown { IfSome result (λ c. IsPageShown (bytes_of sliced.now.held.bytes) (bytes_of directory.now.bytes)
         directory.now.fields place c.value c.limit) }
 {
     let fields = directory.fields;
@@ -229,7 +263,8 @@ fn other_page(
 // The index of the page of a code directory that has a place.
 fn page_index(directory: CodeDirectory, place: u64) -> Option<u32>
     requires { HasSlots directory }
-    ensures { IfSome result (λ index. index < directory.code_slots) }
+    ensures listed { IfSome result (λ index. index < directory.code_slots) }
+    ensures only { (k : ℕ) → k < directory.code_slots → place ≡ (page_of_directory directory k).start → result ≡ Some k }
 {
     let index = if directory.page_size == 0 {
         0
@@ -252,8 +287,12 @@ fn other_special(
 ) -> Option<Conflict>
     requires directory { IsDirectoryOf signature.now.table.span.start (bytes_of signature.now.bytes) directory.now }
     requires blob { blob ≡ blob_at (bytes_of signature.now.bytes) index }
+    requires inside { blob_end blob ≤ length (bytes_of signature.now.bytes) }
     requires special { is_special_slot_of blob.slot ≡ true }
-    ensures { IfSome result (λ c. IsSpecialShown signature.now.table.span.start (bytes_of signature.now.bytes)
+    ensures none { IfNone result (¬ IsOtherSpecial (bytes_of signature.now.bytes) (bytes_of directory.now.bytes)
+        directory.now.fields index) }
+    ensures first { IfSome result (λ c. IsSome c.first) }
+    ensures shown { IfSome result (λ c. IsSpecialShown signature.now.table.span.start (bytes_of signature.now.bytes)
         (bytes_of directory.now.bytes) directory.now.fields
         (signature.now.table.span.start + blob.offset) c.value c.limit) }
 {
