@@ -14,3 +14,4 @@ pub mod Lasts
 pub mod Numbers
 pub mod SliceBytes
 pub mod SectionsAlone
+pub mod SectionAlone

@@ -35,7 +35,7 @@ module _ (image : List ℕ) where
   abbrev pub sections : List (ℕ × ℕ)
   sections = sections_of image (commands_of image)
 
-  of_segments : (segments : List ℕ) (pair : ℕ × ℕ) → Contains (flat_map (sections_with image) segments) pair → Contains segments pair.0 × Contains (sections_in image pair.0) pair.1
+  pub of_segments : (segments : List ℕ) (pair : ℕ × ℕ) → Contains (flat_map (sections_with image) segments) pair → Contains segments pair.0 × Contains (sections_in image pair.0) pair.1
   of_segments [] pair has = absurd (none_in_nil pair has)
   of_segments (x ∷ xs) pair has =
       elim (Contains-append_cases (sections_with image x) (flat_map (sections_with image) xs) pair has) [

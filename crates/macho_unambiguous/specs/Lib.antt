@@ -4,6 +4,7 @@ pub mod Commands
 pub mod Entry
 pub mod Files
 pub mod Sections
+pub mod SectionAlone
 pub mod Order
 pub mod Models
 pub mod Names

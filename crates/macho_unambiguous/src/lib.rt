@@ -11,6 +11,7 @@ pub mod names;
 pub mod once;
 pub mod order;
 pub mod pages;
+pub mod section_alone;
 pub mod sections;
 pub mod segments;
 pub mod slice_pages;

@@ -42,7 +42,7 @@ fn first_misnamed(image: &Image) -> Option<u64>
 }
 
 // The place of a section, if there is one.
-fn place_of_section(section: Option<Section>) -> Option<u64>
+pub(crate) fn place_of_section(section: Option<Section>) -> Option<u64>
     ensures { result ≡ option_map (λ found. found.place) section.entry }
 {
     match section {

@@ -1,0 +1,15 @@
+use Rattle.std.proofs.Common.{sym, subst}
+use Rattle.macho_fields.specs.FirstPlace.{IsLeastPlace}
+use Rattle.macho_tables.specs.Places.{lesser}
+use Rattle.macho_unambiguous.specs.Sections.{BreaksSectionAlone}
+use Rattle.macho_unambiguous.proofs.SectionAlone.{least_alone}
+use Rattle.macho_unambiguous.proofs.section_alone.section_alone.Goals as goal
+
+pub returns : goal.returns
+returns c =
+    let image = c.args.image.now in
+    record {
+      least = subst (IsLeastPlace (BreaksSectionAlone image)) (sym c.lesser.ensures)
+          (subst (λ r. IsLeastPlace (BreaksSectionAlone image) (lesser c.in_ok-shared.shared r)) (sym c.lesser-others.ensures)
+          (least_alone image c.requires c.in_ok-shared.shared c.in_ok-shared.ensures c.in_ok-over.over c.first_hiding-hiding.result c.in_ok-over.ensures c.first_hiding-hiding.ensures));
+    }
