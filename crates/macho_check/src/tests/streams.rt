@@ -183,8 +183,8 @@ struct End(u8, &'static str, &'static str, (u64, u64, u64));
 
 /// The words of the program, the read and the call of the writer that fail, and the end.
 const ENDS: &[(Option<&[&str]>, u64, u64, End)] = &[
-    (UNNAMED, 0, 0, End(0, BARE_LAYOUT, "", (2, 3, 1))),
-    (Some(&[]), 0, 0, End(0, BARE_LAYOUT, "", (2, 3, 1))),
+    (UNNAMED, 0, 0, End(0, BARE_LAYOUT, "", (2, 2, 1))),
+    (Some(&[]), 0, 0, End(0, BARE_LAYOUT, "", (2, 2, 1))),
     (UNNAMED, 1, 0, End(3, "", READ_LINE, (1, 0, 0))),
     (UNNAMED, 2, 0, End(3, "", READ_LINE, (2, 0, 0))),
     (UNNAMED, 0, 1, End(3, "", WRITE_LINE, (2, 1, 0))),
@@ -194,13 +194,13 @@ const ENDS: &[(Option<&[&str]>, u64, u64, End)] = &[
         2,
         End(3, "accepted, slices 1\n", WRITE_LINE, (2, 2, 0)),
     ),
-    (UNNAMED, 0, 4, End(3, BARE_LAYOUT, WRITE_LINE, (2, 3, 1))),
+    (UNNAMED, 0, 3, End(3, BARE_LAYOUT, WRITE_LINE, (2, 2, 1))),
     (None, 0, 0, End(3, "", READ_LINE, (0, 0, 0))),
     (
         Some(&["macho-check", "check", "-"]),
         0,
         0,
-        End(0, BARE_LAYOUT, "", (2, 3, 1)),
+        End(0, BARE_LAYOUT, "", (2, 2, 1)),
     ),
     // Nothing is read where the file is not opened, and nothing is written or flushed where the file has no
     // image.
