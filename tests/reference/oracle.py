@@ -1896,7 +1896,9 @@ def signature_missing(image):
 def signature_executable(image):
     """The segment is mapped and executable, and its file bytes share a byte with the signature."""
     table = table_of(image, "signature")
-    for segment in image.segments if table else []:
+    if table is None:
+        return
+    for segment in image.segments:
         start = max(segment.fileoff, table.start)
         if (is_mapped(segment) and segment.initprot & VM_PROT_EXECUTE
                 and start < min(segment.fileoff + segment.filesize, table.end)):

@@ -16,6 +16,7 @@ from ._signature_stories import (
     directory_repeated, signature_blob, signature_directory, signature_hash, signature_missing, signature_slack,
     signature_whole)
 from ._structures import number_in
+from .constants import S_SYMBOL_STUBS, SECTION_TYPE
 from ._teller import Story, Teller
 
 LC_ID_DYLIB = "LC_ID_DYLIB"
@@ -31,9 +32,8 @@ PAGE_SIZES = (0x1000, 0x4000)
 STARTS_SIZE, PAGE_START_SIZE, ENTRY_SIZE, POINTER_SIZE = 22, 2, 4, 8
 # The bit of r_extern, in the last byte of a relocation.
 R_EXTERN = 8
-# The type of a section, and that of stubs. The tables of LC_DYSYMTAB, of which one is not obsolete.
-SECTION_TYPE, S_SYMBOL_STUBS = 0xFF, 8
 INIT_OFFSET_SIZE = 4
+# The tables of LC_DYSYMTAB. One is not obsolete.
 OBSOLETE_TABLES = ("contents", "modules", "references", "", "external relocations", "local relocations")
 # The kinds of data in code, and the last address.
 DICE_KINDS = (1, 2, 3, 4, 5)
