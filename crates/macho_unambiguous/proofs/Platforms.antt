@@ -94,7 +94,7 @@ module _ (image : List ℕ) (opened : IsOpened image) where
       subst (λ (o : Option ℕ). IsSomeAnd o (λ (q : ℕ). Any (λ earlier. (earlier < at j) × (platform_of image earlier ≡ Some q)) commands)) (sym is_j)
       (any_of (λ earlier. (earlier < at j) × (platform_of image earlier ≡ Some p)) commands (at i) (Contains-get_or commands i 0 (omega (arith, before, less))) (earlier_is_less i j before less, is_i))
 
-  -- a command that repeats a platform has such an index
+  -- a command that repeats a platform is at an index j
   repeated_at : (place : ℕ) → Contains commands place → RepeatsPlatform image place → (j : ℕ) × (at j ≡ place) × (j < length commands) × SharesEarlier spans j
   repeated_at place (j, less, there) repeats =
       let (p, is, any) = some_and (platform_of image place) (λ q. Any (λ earlier. (earlier < place) × (platform_of image earlier ≡ Some q)) commands) repeats in

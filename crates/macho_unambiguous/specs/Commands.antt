@@ -76,7 +76,7 @@ abbrev pub RepeatsCmd : List ℕ → ℕ → ℕ → Type 0
 RepeatsCmd image cmd command =
     Any (λ earlier. (earlier < command) × (command_cmd image earlier ≡ cmd)) (commands_of image)
 
--- the command is of such a kind, and an earlier one is of the same kind
+-- readers take one command of the kind, and an earlier command is of the same kind
 abbrev pub RepeatsSingle : List ℕ → ℕ → Type 0
 RepeatsSingle image command =
     (is_single (command_cmd image command) ≡ true) × RepeatsCmd image (command_cmd image command) command

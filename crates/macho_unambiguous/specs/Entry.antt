@@ -46,7 +46,7 @@ SaysEntry image command address =
     × IsSomeAnd (base_of image (commands_of image)) (λ base. base + entryoff image command ≡ address))
     ⊎ ((is_thread (command_cmd image command) ≡ true) × IsThreadEntry image address)
 
--- LC_DATA_IN_CODE: the bytes of its entries. An image without such a command has no bytes of entries.
+-- LC_DATA_IN_CODE: the bytes of its entries. An image without the command has no bytes of entries.
 abbrev pub data_entries : List ℕ → List ℕ
 data_entries image =
     option_map_or (λ command. let table = table_at image command linkedit_data_table in
@@ -58,7 +58,7 @@ abbrev pub SaysData : List ℕ → ℕ → Type 0
 SaysData entries place =
     (k : ℕ) × (k < entry_count entries) × Holds (bytes_of_entry (entry_at entries (entry_place k))) place
 
--- the segment has such a byte at the address
+-- the segment has a byte at the address, and an entry says that it is data
 abbrev pub HasDataAt : List ℕ → ℕ → List ℕ → ℕ → Type 0
 HasDataAt entries address image segment =
     (place : ℕ) × HasByteOf image address place segment × SaysData entries place
@@ -66,7 +66,7 @@ HasDataAt entries address image segment =
 abbrev pub IsDataAt : List ℕ → List ℕ → ℕ → Type 0
 IsDataAt image entries address = Any (HasDataAt entries address image) (all_segments image)
 
--- the command says that the program begins at such a byte
+-- the command says that the program begins at a byte that an entry calls data
 abbrev pub BeginsAtData : List ℕ → List ℕ → ℕ → Type 0
 BeginsAtData entries image command =
     (address : ℕ) × SaysEntry image command address × IsDataAt image entries address

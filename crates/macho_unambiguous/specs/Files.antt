@@ -73,7 +73,7 @@ HasOtherSubtype bytes cpusubtype = IsImage bytes × (field Little 4 bytes 8 ≢ 
 abbrev pub is_judged : ℕ → Bool
 is_judged cputype = (cputype == machine.CPU_TYPE_X86_64) || (cputype == machine.CPU_TYPE_ARM64)
 
--- the slice is for such a processor, and is not read
+-- the slice is for a processor that is judged, and is not read
 abbrev pub IsUnjudged : List ℕ → ℕ → Type 0
 IsUnjudged bytes cputype = (is_judged cputype ≡ true) × ¬ IsImage bytes
 
@@ -88,7 +88,7 @@ unfoldable pub HasOtherHeader : List ℕ → ℕ → ℕ → Type 0
 HasOtherHeader bytes cputype cpusubtype =
     HasOtherProcessor bytes cputype ⊎ IsOtherwiseRead bytes cputype cpusubtype
 
--- entry k has such a slice
+-- entry k says something else than its slice
 abbrev pub IsOtherEntry : List ℕ → ℕ → Type 0
 IsOtherEntry file k =
     HasOtherHeader (entry_bytes file k) (entry_cputype file k) (entry_cpusubtype file k)

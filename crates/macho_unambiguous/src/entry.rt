@@ -232,7 +232,7 @@ fn is_data_at(image: &Image, entries: Bytes, address: u128) -> bool
         .any(|segment| has_data_at(&segment, entries, address))
 }
 
-// Whether the segment has such a byte there.
+// Whether an entry says that the byte of the segment there is data.
 fn has_data_at(segment: &Segment, entries: Bytes, address: u128) -> bool
     ensures { IsTrue result ↔ HasDataAt (bytes_of entries.entry) address segment.now.image segment.now.place }
 {

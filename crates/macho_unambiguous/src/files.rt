@@ -72,7 +72,7 @@ pub(crate) fn entry_size(file: Bytes) -> Option<u64>
     }
 }
 
-// Whether the entry with this index, which is at `place`, has such a slice.
+// Whether the entry with this index, which is at `place`, says something else than its slice.
 fn is_other_entry(verified: &Verified, index: u64, place: u64) -> bool
     requires universal { IsUniversal verified.now }
     requires entry { index < length (slices_of verified.now) }

@@ -56,7 +56,7 @@ fn slice_span(verified: &Verified, index: u64) -> Span
     verified.slice(index).unwrap().span
 }
 
-// Whether the slice of the entry with this index, which is at `place`, is such a slice.
+// Whether the slice of the entry with this index, which is at `place`, is read, and is off its pages.
 fn is_off_pages(verified: &Verified, slices: &SpansByStart, index: u64, place: u64) -> bool
     requires universal { IsUniversal verified.now }
     requires entry { index < length (slices_of verified.now) }
