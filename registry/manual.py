@@ -12,7 +12,7 @@ CALL = re.compile(r"^(?:static inline )?[a-z][\w ]*[ *](kesvuot_\w+)\(", re.MULT
 WIDTH = 120
 CODE = "    "
 # What tells the cases of a call apart, each with a colon: `OK: all fields are written.`
-CASES = "OK REFUSED NO_MEMORY NONE UNREAD ZERO UNKNOWN_PROFILE LAYOUT STRICT LINKED SEALED".split()
+CASES = "OK REFUSED NO_MEMORY NONE UNREAD ZERO UNKNOWN_PROFILE LAYOUT STRICT LINKED UNAMBIGUOUS SEALED".split()
 CASE = re.compile(rf"(?:^|(?<=\. ))((?:{'|'.join(CASES)})(?: and (?:{'|'.join(CASES)}))*): ")
 CONSTANT = re.compile(r"[A-Z][A-Z0-9]*(?:_[A-Z0-9]+)+")
 

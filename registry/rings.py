@@ -11,6 +11,7 @@ LOOKS = {
     "layout": "the header, the load commands, and where segments, sections, tables and symbols lie",
     "strict": "every byte: it belongs to one part of the file, or is zero or padding of code",
     "linked": "what a loader follows: fixups, exports, initializers, threads, symbols, relocations",
+    "unambiguous": "what readers choose: slices, pages, names, addresses, load commands and the entry point",
     "sealed": "the code signature: the hash of every page, and every byte of the signature",
 }
 WIDTH, EDGE = 840, 8

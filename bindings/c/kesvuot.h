@@ -79,21 +79,25 @@ enum {
 /* The profiles, by which kesvuot_verify judges a file. No profile has the number 0. */
 enum {
     /* registry: profiles */
-    KESVUOT_LAYOUT = 1, /* a loader that follows the headers and checks no bounds reads only bytes of the slice.
-                           rules/layout.md explains the rules */
-    KESVUOT_STRICT = 2, /* every nonzero byte is accounted for, and no byte belongs to two elements, such as the
-                           headers, a section or a table. rules/strict.md explains the rules */
-    KESVUOT_LINKED = 3, /* the rules judge where the linked data of an image lies; what the opcodes of LC_DYLD_INFO and
-                           LC_DYLD_INFO_ONLY, the table of LC_DYLD_CHAINED_FIXUPS and the chains of pointers in the
-                           pages ask a dynamic loader for; what the image exports; where functions start and data is in
-                           code; how a code signature is built; what symbols, stubs and relocations refer to; where
-                           threads and initializers begin; and what all other commands of loader.h hold. rules/linked.md
-                           explains the rules */
-    KESVUOT_SEALED = 4  /* each image has a code signature; each code directory has the hashes of all bytes before the
-                           signature and of the blobs in special slots; no byte of the signature can be executed; and
-                           each nonzero byte from the signature on is in the signature's header, its index or a blob.
-                           The profile does not say who signed, and it reads nothing outside of the file.
-                           rules/sealed.md explains the rules */
+    KESVUOT_LAYOUT = 1,      /* a loader that follows the headers and checks no bounds reads only bytes of the slice.
+                                rules/layout.md explains the rules */
+    KESVUOT_STRICT = 2,      /* every nonzero byte is accounted for, and no byte belongs to two elements, such as the
+                                headers, a section or a table. rules/strict.md explains the rules */
+    KESVUOT_LINKED = 3,      /* the rules judge where the linked data of an image lies; what the opcodes of LC_DYLD_INFO
+                                and LC_DYLD_INFO_ONLY, the table of LC_DYLD_CHAINED_FIXUPS and the chains of pointers in
+                                the pages ask a dynamic loader for; what the image exports; where functions start and
+                                data is in code; how a code signature is built; what symbols, stubs and relocations
+                                refer to; where threads and initializers begin; and what all other commands of loader.h
+                                hold. rules/linked.md explains the rules */
+    KESVUOT_UNAMBIGUOUS = 4, /* readers that choose slices, segments, sections, load commands and entry points in
+                                different ways choose the same ones, and a kernel that maps whole pages shows the bytes
+                                that the headers describe. The profile does not speak of names of symbols, exports,
+                                binds and signatures. rules/unambiguous.md explains the rules */
+    KESVUOT_SEALED = 5       /* each image has a code signature; each code directory has the hashes of all bytes before
+                                the signature and of the blobs in special slots; no byte of the signature can be
+                                executed; and each nonzero byte from the signature on is in the signature's header, its
+                                index or a blob. The profile does not say who signed, and it reads nothing outside of
+                                the file. rules/sealed.md explains the rules */
     /* registry: end */
 };
 
@@ -185,6 +189,20 @@ enum {
     KESVUOT_RELOCATION = 75,
     KESVUOT_THREAD = 76,
     KESVUOT_COMMAND_CONTENT = 77,
+    /* of the unambiguous profile: rules/unambiguous.md explains them */
+    KESVUOT_FAT_COUNT = 86,
+    KESVUOT_FAT_HEADER = 87,
+    KESVUOT_FAT_PAGE = 88,
+    KESVUOT_COMMAND_KNOWN = 89,
+    KESVUOT_COMMAND_ONCE = 90,
+    KESVUOT_SEGMENT_NAME = 91,
+    KESVUOT_SEGMENT_PAGE = 92,
+    KESVUOT_SEGMENT_PROTECTION = 93,
+    KESVUOT_BYTES_ENCRYPTED = 94,
+    KESVUOT_NUMBER_SHIFT = 95,
+    KESVUOT_SECTION_NAME = 96,
+    KESVUOT_SECTION_ALONE = 97,
+    KESVUOT_ENTRY_ONE = 98,
     /* of the sealed profile: rules/sealed.md explains them */
     KESVUOT_SIGNATURE_MISSING = 78,
     KESVUOT_SIGNATURE_EXECUTABLE = 85,
@@ -215,8 +233,10 @@ struct kesvuot_verdict {
  * LAYOUT: a universal file, or a file whose mapped segments neither ascend nor descend by address.
  * STRICT: also a file that LAYOUT accepts, if the slices do not ascend. Also if in some slice the segments do not
  * ascend by file offset, the elements do not, a range is encrypted, or a byte 0x90 (a NOP) is in no element.
- * LINKED and SEALED: also a file that STRICT accepts, if some slice has more than 16 mapped segments, several
- * executable ones that have bytes in the file, or an export trie. */
+ * LINKED: also a file that STRICT accepts, if some slice has more than 16 mapped segments, several executable ones that
+ * have bytes in the file, an export trie, or offsets of initializers.
+ * UNAMBIGUOUS and SEALED: also a file that LINKED accepts, if it is universal, or if some slice has more than 64
+ * sections, more than 64 segments, or the versions of several platforms. */
 int kesvuot_verify(const void *file, size_t size, uint32_t profile, struct kesvuot_verdict *verdict);
 
 /* Writes the layout of an accepted file as text, as macho-check prints it: up to `max` bytes, from its first byte on.
@@ -247,7 +267,7 @@ static inline const char *kesvuot_rule_name(uint32_t rule) {
 /* The profile that a rule belongs to, or 0 if no rule has this number. */
 uint32_t kesvuot_rule_profile(uint32_t rule);
 
-/* The name of a profile: "layout", "strict", "linked" or "sealed".
+/* The name of a profile: "layout", "strict", "linked", "unambiguous" or "sealed".
  * OK: the name is written. NONE: no profile has this number, and the name is empty: do not read through `at`. */
 uint32_t kesvuot_find_profile(uint32_t profile, struct kesvuot_text *name);
 
@@ -955,6 +975,9 @@ uint32_t kesvuot_find_address(const void *file, size_t size, const struct kesvuo
 #define KESVUOT_S_SYMBOL_STUBS 0x8
 #define KESVUOT_S_LAZY_DYLIB_SYMBOL_POINTERS 0x10
 #define KESVUOT_S_THREAD_LOCAL_VARIABLE_POINTERS 0x14
+
+/* The type of a section of offsets of initializers. (mach-o/loader.h) */
+#define KESVUOT_S_INIT_FUNC_OFFSETS 0x16
 
 /* The marks of an indirect entry. (mach-o/loader.h) */
 #define KESVUOT_INDIRECT_SYMBOL_LOCAL 0x80000000

@@ -60,11 +60,15 @@ const (
 	// stubs and relocations refer to; where threads and initializers begin; and what all other commands of loader.h hold.
 	// rules/linked.md explains the rules.
 	Linked Profile = 3
+	// Unambiguous: readers that choose slices, segments, sections, load commands and entry points in different ways choose
+	// the same ones, and a kernel that maps whole pages shows the bytes that the headers describe. The profile does not
+	// speak of names of symbols, exports, binds and signatures. rules/unambiguous.md explains the rules.
+	Unambiguous Profile = 4
 	// Sealed: each image has a code signature; each code directory has the hashes of all bytes before the signature and of
 	// the blobs in special slots; no byte of the signature can be executed; and each nonzero byte from the signature on is
 	// in the signature's header, its index or a blob. The profile does not say who signed, and it reads nothing outside of
 	// the file. rules/sealed.md explains the rules.
-	Sealed Profile = 4
+	Sealed Profile = 5
 	// registry: end
 )
 

@@ -93,6 +93,9 @@ S_SYMBOL_STUBS = 0x8
 S_LAZY_DYLIB_SYMBOL_POINTERS = 0x10
 S_THREAD_LOCAL_VARIABLE_POINTERS = 0x14
 
+# The type of a section of offsets of initializers. (mach-o/loader.h)
+S_INIT_FUNC_OFFSETS = 0x16
+
 # The marks of an indirect entry. (mach-o/loader.h)
 INDIRECT_SYMBOL_LOCAL = 0x80000000
 INDIRECT_SYMBOL_ABS = 0x40000000

@@ -95,6 +95,9 @@ pub const S_SYMBOL_STUBS: u32 = 0x8;
 pub const S_LAZY_DYLIB_SYMBOL_POINTERS: u32 = 0x10;
 pub const S_THREAD_LOCAL_VARIABLE_POINTERS: u32 = 0x14;
 
+// The type of a section of offsets of initializers. (mach-o/loader.h)
+pub const S_INIT_FUNC_OFFSETS: u32 = 0x16;
+
 // The marks of an indirect entry. (mach-o/loader.h)
 pub const INDIRECT_SYMBOL_LOCAL: u32 = 0x8000_0000;
 pub const INDIRECT_SYMBOL_ABS: u32 = 0x4000_0000;

@@ -34,11 +34,15 @@ pub enum Profile {
     /// what symbols, stubs and relocations refer to; where threads and initializers begin; and what all other commands
     /// of `loader.h` hold. `docs/rules/linked.md` explains the rules.
     Linked = 3,
+    /// Readers that choose slices, segments, sections, load commands and entry points in different ways choose the same
+    /// ones, and a kernel that maps whole pages shows the bytes that the headers describe. The profile does not speak
+    /// of names of symbols, exports, binds and signatures. `docs/rules/unambiguous.md` explains the rules.
+    Unambiguous = 4,
     /// Each image has a code signature; each code directory has the hashes of all bytes before the signature and of the
     /// blobs in special slots; no byte of the signature can be executed; and each nonzero byte from the signature on is
     /// in the signature's header, its index or a blob. The profile does not say who signed, and it reads nothing
     /// outside of the file. `docs/rules/sealed.md` explains the rules.
-    Sealed = 4,
+    Sealed = 5,
     // registry: end
 }
 
@@ -49,6 +53,7 @@ impl Profile {
         Profile::Layout,
         Profile::Strict,
         Profile::Linked,
+        Profile::Unambiguous,
         Profile::Sealed,
         // registry: end
     ];
@@ -115,7 +120,7 @@ mod tests {
 
     #[test]
     fn each_name_is_read_as_its_profile() {
-        let names = ["layout", "strict", "linked", "sealed"];
+        let names = ["layout", "strict", "linked", "unambiguous", "sealed"];
         assert_eq!(names.len(), Profile::ALL.len());
         for (name, &profile) in names.iter().zip(Profile::ALL) {
             assert_eq!(
@@ -134,7 +139,7 @@ mod tests {
         let error = "strictly".parse::<Profile>().unwrap_err();
         assert_eq!(
             error.to_string(),
-            "not one of the profiles layout, strict, linked, sealed"
+            "not one of the profiles layout, strict, linked, unambiguous, sealed"
         );
     }
 
@@ -144,7 +149,7 @@ mod tests {
         for &profile in Profile::ALL {
             assert_eq!(Profile::from_number(profile.number()), Some(profile));
         }
-        for number in [0, 5, u32::MAX] {
+        for number in [0, Profile::ALL.len() as u32 + 1, u32::MAX] {
             assert_eq!(
                 (Profile::from_number(number), ffi::profile(number)),
                 (None, None)

@@ -212,6 +212,38 @@ rules! {
     Thread = 76,
     /// Linked: what a load command holds is not inside of it or of the image, or the command has no place in it.
     CommandContent = 77,
+    /// Unambiguous: a universal file has so many slices that readers take it for a Java class.
+    FatCount = 86,
+    /// Unambiguous: a slice is not for the processor that its entry names, or its processor is judged and the slice is
+    /// not read.
+    FatHeader = 87,
+    /// Unambiguous: a slice does not begin at a page, or another slice begins in its last page.
+    FatPage = 88,
+    /// Unambiguous: a load command is of a kind that no rule knows.
+    CommandKnown = 89,
+    /// Unambiguous: a load command is of the kind, or for the platform, of an earlier one, and readers take only one of
+    /// the two.
+    CommandOnce = 90,
+    /// Unambiguous: a segment has no name, the name of an earlier one or bytes past its name, or the base is not at the
+    /// segment named `__TEXT`.
+    SegmentName = 91,
+    /// Unambiguous: a segment does not begin at a page, in memory or in the file.
+    SegmentPage = 92,
+    /// Unambiguous: the initial protection of a segment has a bit that its maximum protection lacks, or an unknown one.
+    SegmentProtection = 93,
+    /// Unambiguous: bytes of the image are encrypted, so other ones run.
+    BytesEncrypted = 94,
+    /// Unambiguous: a number of a segment or of a library means another one to readers that skip some.
+    NumberShift = 95,
+    /// Unambiguous: a section has the names of an earlier one, or bytes past its name, or another segment name than its
+    /// segment.
+    SectionName = 96,
+    /// Unambiguous: a section has an address of an earlier one, or hides a byte of its segment, or lies over a segment
+    /// that is not its own.
+    SectionAlone = 97,
+    /// Unambiguous: a second command says where the program begins, or the image is not a program, or readers find
+    /// another byte there, or data.
+    EntryOne = 98,
     /// Sealed: an image has no code signature with a code directory.
     SignatureMissing = 78,
     /// Sealed: a byte of the code signature lies in memory that may be executed.

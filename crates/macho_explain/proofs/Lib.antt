@@ -20,5 +20,6 @@ pub mod ShownSignatures
 pub mod Steps
 pub mod Sought
 pub mod SymbolsAt
+pub mod EntryPages
 pub mod Walked
 pub mod Wholes

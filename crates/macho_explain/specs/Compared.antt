@@ -33,6 +33,7 @@ use Rattle.macho_symbols.specs.Nlist.{library_ordinal}
 use Rattle.macho_symbols.specs.Reloc.{relocation_at}
 use Rattle.macho_symbols.specs.declared.reloc.Relocation.{Relocation}
 use Rattle.macho_fields.specs.declared.header.reloc.TheConstants as reloc
+use Rattle.macho_unambiguous.specs.declared.files.TheConstants as files
 use Rattle.macho_image.specs.Command.{first_with_cmd}
 use Rattle.macho_image.specs.Symbol.{dysymtab_at, symbol_at}
 use Rattle.macho_explain.specs.Commanded.{HasEarlier, HasSection, HasWalkEnd, IsGroupPast, field_shown, group_shown, obsolete_counts}
@@ -40,6 +41,7 @@ use Rattle.macho_explain.specs.Elements.{HasOverlap}
 use Rattle.macho_explain.specs.Entries.{HasEntry, HasEntryWith, HasForeign}
 use Rattle.macho_explain.specs.Explain.{all_loads, all_segment_loads, memory_of, IsCommandAt, IsUncounted, long_at, word_at}
 use Rattle.macho_explain.specs.Parts.{IsBefore, Share}
+use Rattle.macho_explain.specs.Readers.{big_word_at, HasLaterLibrary, HasLaterSegment, IsBadStartShown, IsKindShown, IsNameShown, IsNamesShown, IsOfSameKind, IsOffItsPages, IsPageShown, IsProcessorShown, IsProtectionShown, IsUnevenShown}
 use Rattle.macho_explain.specs.Seals.{HasOtherHashes, IsRepeatShown, ShowsHash}
 use Rattle.macho_explain.specs.Signatures.{IsBlobShown, IsLimitShown, IsSuperblobShown, IsUnsoundShown, ShowsSignature}
 use Rattle.macho_signature.specs.Signature.{bytes_at}
@@ -425,3 +427,16 @@ shown rule.SignatureExecutable = OfImage (λ image place. HasSegment image place
 shown rule.DirectoryRepeated = OfImage (InSignature IsRepeatAt) (λ image place c. IsRepeatShown image place c.value × (c.limit ≡ c.value) × IsBefore c)
 shown rule.SignatureSlack = OfImage (λ image place. HasByte image place × InTable image loader.LC_CODE_SIGNATURE (λ start signature offset. Unit {0}) place) (λ image place c. IsByteShown image place c)
 shown rule.SignatureHash = OfImage HasOtherHashes (λ image place c. ShowsHash image place c.value c.limit)
+shown rule.FatCount = OfFile HasCount (λ file place index c. (c.value ≡ big_word_at file 4) × (c.limit ≡ files.LEAST_CLASS_COUNT))
+shown rule.FatHeader = OfFile HasEntry (λ file place index c. OfSlice file index (λ slice. IsProcessorShown file place slice c))
+shown rule.FatPage = OfFile (HasEntryWith IsOffItsPages) (λ file place index c. OfSlice file index (λ slice. IsPageShown file place slice c))
+shown rule.CommandKnown = OfImage HasCommand (λ image place c. (c.value ≡ command_cmd image place) × (c.limit ≡ 0))
+shown rule.CommandOnce = OfImage (λ image place. HasCommand image place × HasEarlier (all_loads image) (IsOfSameKind image place) place) (λ image place c. IsKindShown image place c × IsBefore c)
+shown rule.SegmentName = OfImage (λ image place. HasSegment image place × Opens image) IsNameShown
+shown rule.SegmentPage = OfImage HasSegment IsUnevenShown
+shown rule.SegmentProtection = OfImage HasSegment IsProtectionShown
+shown rule.BytesEncrypted = OfImage (λ image place. HasSegment image place ⊎ (HasCommand image place × (command_cmd image place ≡ loader.LC_ENCRYPTION_INFO_64))) (λ image place c. (c.limit ≡ 0) ⊎ (c.limit ≡ loader.SG_PROTECTED_VERSION_1))
+shown rule.NumberShift = OfImage (λ image place. (HasSegment image place × HasLaterSegment image place) ⊎ ((HasCommand image place × ¬ HasSegment image place) × HasLaterLibrary image place)) (λ image place c. Unit {0})
+shown rule.SectionName = OfImage (λ image place. Opens image × HasSection image place) IsNamesShown
+shown rule.SectionAlone = OfImage (λ image place. Opens image × HasSection image place) (λ image place c. Share c ⊎ (c.limit ≡ 0))
+shown rule.EntryOne = OfImage HasCommand IsBadStartShown

@@ -1,12 +1,12 @@
 -- What explains a refusal: what is at the place, and the numbers that a rule compares. (kesvuot.h: struct
 -- kesvuot_explanation)
-use Rattle.std.specs.Prelude.{◌≡◌, ℕ, ◌+◌, ◌*◌, ◌^◌, ◌≤◌, ◌<◌, ◌⊎◌, List, length, map, take, Some, IfSome, slice_get, true}
+use Rattle.std.specs.Prelude.{◌≡◌, ℕ, ◌+◌, ◌*◌, ◌^◌, ◌≤◌, ◌<◌, ◌⊎◌, ◌==◌, if◌then◌else◌, List, length, map, take, Option, Some, IfSome, slice_get, true}
 use Rattle.std.specs.List.{sum_by}
 use Rattle.std.specs.Option.{unwrap_or}
 use Rattle.macho_fields.specs.Field.{field}
 use Rattle.macho_fields.specs.Image.{command_cmd, command_size, commands_of}
-use Rattle.macho_image.specs.Segment.{reserved1, reserved2}
-use Rattle.macho_fields.specs.Segment.{vmaddr, vmsize, fileoff, filesize, section_address, section_size, section_offset, section_flags, reloff, nreloc}
+use Rattle.macho_image.specs.Segment.{maxprot, reserved1, reserved2}
+use Rattle.macho_fields.specs.Segment.{vmaddr, vmsize, fileoff, filesize, initprot, section_address, section_size, section_offset, section_flags, reloff, nreloc}
 use Rattle.macho_fields.specs.Universal.{FileSlice}
 use Rattle.macho_fields.specs.declared.bytes.Order.TheVariants.{Little}
 use Rattle.macho_fields.specs.declared.load_command.TableFields.{TableFields}
@@ -15,13 +15,17 @@ use Rattle.macho_image.specs.Symbol.{symbols_of, symbol_at}
 use Rattle.macho_image.specs.declared.symbol.Symbol.{Symbol}
 use Rattle.macho_tables.specs.Kinds.{share_kind}
 use Rattle.macho_rows.specs.Cursor.{start as first_cursor}
-use Rattle.macho_rows.specs.Loads.{wanted_left, IsLoad}
+use Rattle.macho_rows.specs.Loads.{version_min_platform, wanted_left, IsLoad}
 use Rattle.macho_rows.specs.Sections.{nsects_at}
 use Rattle.macho_rows.specs.Segments.{last_address}
 use Rattle.macho_rows.specs.Spans.{part_or_none}
 use Rattle.macho_spans.specs.Span.{Holds, Shares}
 use Rattle.macho_spans.specs.declared.span.Span.{Span}
 use Rattle.macho_tables.specs.Homes.{bytes_of_segment}
+use Rattle.macho_tables.specs.Segments.{is_writable}
+use Rattle.macho_unambiguous.specs.Entry.{is_entry}
+use Rattle.macho_unambiguous.specs.Order.{IsEager}
+use Rattle.macho_fields.specs.declared.header.loader.TheConstants as loader
 use Rattle.macho_explain.specs.declared.section.SectionAt.{SectionAt}
 use Rattle.macho_explain.specs.declared.segment.SegmentAt.{SegmentAt}
 use Rattle.macho_explain.specs.declared.segment.SegmentWith.{SegmentWith}
@@ -37,6 +41,12 @@ word_at image place = unwrap_or (field Little 4 image place) 0
 
 abbrev pub long_at : List ℕ → ℕ → ℕ
 long_at image place = unwrap_or (field Little 8 image place) 0
+
+-- the platform whose versions a command has, if it has some (build_version_command: platform at 8)
+abbrev pub platform_shown : List ℕ → ℕ → Option ℕ
+platform_shown image command =
+    if command_cmd image command == loader.LC_BUILD_VERSION then field Little 4 image (command + 8)
+    else version_min_platform (command_cmd image command)
 
 -- the bytes of a slice, and none where it ends past the file
 abbrev pub image_of : List ℕ → FileSlice → List ℕ
@@ -84,6 +94,9 @@ Meets image (sought.At place) command =
     (command ≤ place) × (place < command + command_size image command)
 Meets image (sought.First cmd) command = command_cmd image command ≡ cmd
 Meets image (sought.OfKind cmd) command = share_kind (command_cmd image command) cmd ≡ true
+Meets image (sought.OfPlatform platform) command = platform_shown image command ≡ Some platform
+Meets image (sought.EagerPast place) command = (place < command) × IsEager (command_cmd image command)
+Meets image sought.Entry command = is_entry (command_cmd image command) ≡ true
 
 -- no command is
 abbrev pub NoneMeets : List ℕ → Sought → Type 0
@@ -106,6 +119,9 @@ MeetsLimit (sought.From place) cmd = Unit {0}
 MeetsLimit (sought.At place) cmd = Unit {0}
 MeetsLimit (sought.First wanted) cmd = cmd ≡ wanted
 MeetsLimit (sought.OfKind wanted) cmd = share_kind cmd wanted ≡ true
+MeetsLimit (sought.OfPlatform platform) cmd = Unit {0}
+MeetsLimit (sought.EagerPast place) cmd = IsEager cmd
+MeetsLimit sought.Entry cmd = is_entry cmd ≡ true
 
 -- the first command that is sought, with its index, and how many sections are before it
 pub record IsWalked (image : List ℕ) (which : Sought) (walked : Walked) : Type 0 where
@@ -131,6 +147,8 @@ pub record IsSegmentRow (image : List ℕ) (segment : SegmentAt) : Type 0 where
   pub last : segment.row.last ≡ last_address (vmaddr image segment.place) (vmsize image segment.place)
   pub file_start : segment.row.fileoff ≡ fileoff image segment.place
   pub file_size : segment.row.filesize ≡ filesize image segment.place
+  pub maxprot : segment.row.maxprot ≡ maxprot image segment.place
+  pub initprot : segment.row.initprot ≡ initprot image segment.place
 
 -- the segment whose command is at a place is one that is sought
 abbrev pub MeetsSegment : List ℕ → SegmentWith → ℕ → Type 0
@@ -144,6 +162,7 @@ MeetsSegment image (with.SharingMemory span end) segment =
     (segment < end) × Shares span (memory_of image segment)
 MeetsSegment image (with.SharingFile span end) segment =
     (segment < end) × Shares span (bytes_of_segment image segment)
+MeetsSegment image (with.WritablePast place) segment = (place < segment) × (is_writable image segment ≡ true)
 
 -- no segment is
 abbrev pub NoSegmentMeets : List ℕ → SegmentWith → Type 0

@@ -11,6 +11,7 @@ pub mod FirstSlices
 pub mod Judged
 pub mod Linked
 pub mod Parts
+pub mod Readers
 pub mod Seals
 pub mod SectionItems
 pub mod Signatures

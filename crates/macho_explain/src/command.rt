@@ -17,16 +17,19 @@ use crate::segment::{SegmentWith, find_segment};
 use crate::sliced::Sliced;
 use crate::spot::Spot;
 use crate::table::{symtab_table, table_by, table_with, tables_of};
-use crate::walk::{Sought, Walked, walk_end, walk_to};
+use crate::walk::{Sought, Walked, platform_of, walk_end, walk_to};
 use macho_commands::content_of;
 use macho_fields::header::loader::dysymtab_command::{
     NEXTREFSYMS, NEXTREL, NLOCREL, NMODTAB, NTOC,
 };
+use macho_fields::header::loader::encryption_info_command_64::CRYPTID;
 use macho_fields::header::loader::entry_point_command::ENTRYOFF;
 use macho_fields::header::loader::load_command::CMDSIZE;
+use macho_fields::header::loader::segment_command_64::FLAGS;
 use macho_fields::header::loader::symtab_command::NSYMS;
 use macho_fields::header::loader::{
     LC_DYLD_CHAINED_FIXUPS, LC_STR_OFFSET, LC_SYMTAB, LC_THREAD, LC_UNIXTHREAD, LOAD_COMMAND_SIZE,
+    SG_PROTECTED_VERSION_1,
 };
 use macho_fields::{Span, structure_of};
 use macho_rows::load::Load;
@@ -119,7 +122,7 @@ pub(crate) fn table_repeated(sliced: &Sliced) -> Option<Explanation>
 }
 
 // The command that is sought, which comes before this one.
-fn repeated(sliced: &Sliced, walked: &Walked, sought: Sought) -> Option<Conflict>
+pub(crate) fn repeated(sliced: &Sliced, walked: &Walked, sought: Sought) -> Option<Conflict>
     ensures none { IfNone result (NoneMeetsBefore (bytes_of sliced.now.held.bytes) sought walked.now.index
         ⊎ IsUncounted (bytes_of sliced.now.held.bytes)) }
     ensures value { IfSome result (λ c. c.value ≡ walked.now.load.cmd) }
@@ -175,6 +178,53 @@ pub(crate) fn command_content(sliced: &Sliced) -> Option<Explanation>
     let size = content_of(walked.load.cmd).map_or(0, |content| content.size);
     let own = sliced.command(&walked);
     Some(at.shows(Conflict::alone(own, walked.load.size, size)))
+}
+
+// The `cmd` of a command that no profile knows.
+#[inline(never)]
+pub(crate) fn command_known(sliced: &Sliced) -> Option<Explanation>
+    ensures { ExplainsIn Rule.CommandKnown sliced.now result }
+{
+    let (at, walked) = command_here(sliced)?;
+    let own = sliced.command(&walked);
+    Some(at.shows(Conflict::alone(own, u64::from(walked.load.cmd), 0)))
+}
+
+// The first command with versions of the same platform, or with this `cmd`.
+#[inline(never)]
+pub(crate) fn command_once(sliced: &Sliced) -> Option<Explanation>
+    ensures { ExplainsIn Rule.CommandOnce sliced.now result }
+{
+    let (at, walked) = command_here(sliced)?;
+    let Some(platform) = platform_of(sliced.held.bytes, walked.load) else {
+        return Some(at.shows(repeated(sliced, &walked, Sought::First(walked.load.cmd))?));
+    };
+    Some(at.shows(Conflict {
+        value: u64::from(platform),
+        limit: u64::from(platform),
+        ..repeated(sliced, &walked, Sought::OfPlatform(platform))?
+    }))
+}
+
+// The segment whose pages a kernel decrypts, and its flags; or the encrypted range, and how it is encrypted.
+#[inline(never)]
+pub(crate) fn bytes_encrypted(sliced: &Sliced) -> Option<Explanation>
+    ensures { ExplainsIn Rule.BytesEncrypted sliced.now result }
+{
+    let (at, walked) = command_here(sliced)?;
+    let place = walked.load.place;
+    if let Some(segment) = find_segment(sliced, SegmentWith::Command(place)) {
+        let flags = u64::from(sliced.word(place.saturating_add(FLAGS)));
+        let limit = u64::from(SG_PROTECTED_VERSION_1);
+        return Some(at.shows(Conflict::alone(sliced.segment(&segment), flags, limit)));
+    }
+    let range = table_with(sliced, walked.load, 0)?;
+    let cryptid = u64::from(sliced.word(place.saturating_add(CRYPTID)));
+    let found = find_segment(sliced, SegmentWith::FileByte(range.span.start));
+    Some(at.shows(Conflict {
+        second: found.map(|segment| sliced.segment(&segment)),
+        ..Conflict::alone(range.part, cryptid, 0)
+    }))
 }
 
 // The command that has variants of functions.

@@ -10,6 +10,7 @@ ghost use Rattle.macho_fat.specs.Slices.{slice_of, MarksReadInside};
 ghost use Rattle.macho_explain.specs.Compared.{HasCount};
 ghost use Rattle.macho_explain.specs.Entries.{HasEntry, HasTable, IsForeignSlice};
 ghost use Rattle.macho_explain.specs.Explained.{ExplainsFile};
+ghost use Rattle.macho_explain.specs.Readers.{big_word_at};
 ghost use Rattle.macho_explain.specs.FirstSlices.{HasSlices};
 
 use crate::conflict::{Conflict, shared};
@@ -73,7 +74,7 @@ pub(crate) fn fat_empty(file: Bytes, place: u64) -> Option<Explanation>
 }
 
 // What there is of the header of a universal file, by the place of its second field.
-fn header_here(file: Bytes, place: u64) -> Option<Spot>
+pub(crate) fn header_here(file: Bytes, place: u64) -> Option<Spot>
     ensures { MatchOption result (¬ HasCount (bytes_of file.entry) place) (λ at. place ≡ 4) }
 {
     if place != NFAT_ARCH || !is_universal(file) {
@@ -84,7 +85,7 @@ fn header_here(file: Bytes, place: u64) -> Option<Spot>
 }
 
 // The entry at the place, its index, and its slice.
-fn entry_here(file: Bytes, place: u64) -> Option<(Spot, u32, Slice)>
+pub(crate) fn entry_here(file: Bytes, place: u64) -> Option<(Spot, u32, Slice)>
     ensures entry { MatchOption result (¬ HasEntry (bytes_of file.entry) place)
         (λ found. HasTable (bytes_of file.entry) → (found.1 < entry_count (bytes_of file.entry))
         × (place ≡ entry_place (bytes_of file.entry) found.1)) }
@@ -234,7 +235,7 @@ fn part_with(file: Bytes, index: Option<u64>) -> Option<Part> {
 }
 
 // The slice of the entry with an index, in a universal file.
-fn slice_with_index(file: Bytes, index: u32) -> Option<Slice>
+pub(crate) fn slice_with_index(file: Bytes, index: u32) -> Option<Slice>
     ensures listed { MatchOption result
         (HasTable (bytes_of file.entry) → entry_count (bytes_of file.entry) ≤ index)
         (λ slice. slice_get (slices_of (bytes_of file.entry)) index ≡ Some (slice_of slice)) }
@@ -314,13 +315,13 @@ fn whole(file: Bytes) -> Part {
 }
 
 // The `fat_header` and all entries.
-fn fat_table(file: Bytes) -> Part {
+pub(crate) fn fat_table(file: Bytes) -> Part {
     let end = FAT_HEADER_SIZE + u64::from(entry_count(file)) * entry_size(file);
     structure(PartKind::FatTable, 0, end, None)
 }
 
 // What there is of the magic number at the start of bytes of this length.
-fn magic_part(start: u64, len: u64, index: Option<u32>) -> Part {
+pub(crate) fn magic_part(start: u64, len: u64, index: Option<u32>) -> Part {
     structure(PartKind::Magic, start, len.min(MAGIC_SIZE), index)
 }
 
@@ -336,7 +337,7 @@ fn first_word(file: Bytes, start: u64, len: u64) -> u32 {
 }
 
 // How many entries the table has. (`fat_header.nfat_arch`)
-fn entry_count(file: Bytes) -> u32
+pub(crate) fn entry_count(file: Bytes) -> u32
     ensures { HasTable (bytes_of file.entry) → result ≡ entry_count (bytes_of file.entry) }
 {
     if !is_universal(file) {
@@ -384,9 +385,10 @@ fn entry_size(file: Bytes) -> u64
 }
 
 // The big-endian word at a place, or 0 past the file.
-fn big_word(file: Bytes, place: u64) -> u32
-    ensures { place + 4 ≤ length (bytes_of file.entry)
+pub(crate) fn big_word(file: Bytes, place: u64) -> u32
+    ensures inside { place + 4 ≤ length (bytes_of file.entry)
         → result ≡ number Big 4 (bytes_of file.entry) place }
+    ensures word { result ≡ big_word_at (bytes_of file.entry) place }
 {
     match file.u32_at(Order::Big, place) {
         Some(word) => word,

@@ -6,12 +6,14 @@ ghost use Rattle.macho_fields.specs.declared.rule.Rule.{Rule};
 ghost use Rattle.macho_explain.specs.Commanded.{HasSection};
 ghost use Rattle.macho_explain.specs.Explained.{ExplainsIn, IsSpot};
 ghost use Rattle.macho_explain.specs.Explain.{IsNthSection, IsWalked, IsSectionFound, IsSectionRow, IsSegmentRow};
+ghost use Rattle.macho_explain.specs.Parts.{part_of, place_in_file};
+ghost use Rattle.macho_explain.specs.declared.part.PartKind.{PartKind};
 ghost use Rattle.macho_explain.specs.declared.walk.Sought.TheVariants as sought;
 ghost use Rattle.macho_symbols.specs.Indirects.{stride as stride_of};
 
 use crate::conflict::Conflict;
 use crate::explanation::Explanation;
-use crate::part::{PartKind, index_of};
+use crate::part::{Part, PartKind, index_of};
 use crate::segment::{SegmentAt, SegmentWith, find_segment};
 use crate::sliced::Sliced;
 use crate::spot::Spot;
@@ -72,20 +74,21 @@ pub(crate) fn section_spot(sliced: &Sliced, walked: &Walked, section: &SectionAt
     requires section { IsSectionFound (bytes_of sliced.now.held.bytes) sliced.now.place section.now }
     ensures { IsSpot sliced.now result }
 {
-    let part = sliced.structure(
-        PartKind::Section,
-        section.place,
-        SECTION_64_SIZE,
-        section.index,
-    );
+    let part = section.structure(sliced);
     Spot {
         section: section.index,
         ..sliced.at(part).in_command(Some(walked.index))
     }
 }
 
+// The section whose structure has the byte at a place.
+pub(crate) fn section_from(sliced: &Sliced, place: u64) -> Option<SectionAt> {
+    let walked = walk_to(sliced.held.bytes, Sought::At(place))?;
+    section_with(sliced, &walked, place)
+}
+
 // The section whose structure begins at the place, and its segment.
-fn section_here(sliced: &Sliced) -> Option<(Spot, SectionAt, SegmentAt)>
+pub(crate) fn section_here(sliced: &Sliced) -> Option<(Spot, SectionAt, SegmentAt)>
     ensures { MatchOption result (¬ HasSection (bytes_of sliced.now.held.bytes) sliced.now.place)
         (λ found. IsSpot sliced.now found.0
         × IsSectionRow (bytes_of sliced.now.held.bytes) found.1 × (found.1.place ≡ sliced.now.place)
@@ -106,13 +109,7 @@ pub(crate) fn section_address(sliced: &Sliced) -> Option<Explanation>
     ensures { ExplainsIn Rule.SectionAddress sliced.now result }
 {
     let (at, section, segment) = section_here(sliced)?;
-    let memory = section.memory();
-    let own = sliced.numbered(
-        PartKind::SectionMemory,
-        memory,
-        section.place,
-        section.index,
-    );
+    let (memory, own) = (section.memory(), section.addresses(sliced));
     let whole = sliced.memory(&segment);
     if memory.start < segment.row.vmaddr {
         return Some(at.shows(Conflict::of(own, whole, memory.start, segment.row.vmaddr)));
@@ -191,8 +188,26 @@ impl SectionAt {
         }
     }
 
+    // Its structure, as a part.
+    pub(crate) fn structure(&self, sliced: &Sliced) -> Part {
+        sliced.structure(PartKind::Section, self.place, SECTION_64_SIZE, self.index)
+    }
+
+    // Its addresses, as a part.
+    pub(crate) fn addresses(&self, sliced: &Sliced) -> Part
+        ensures { result ≡ part_of PartKind.SectionMemory self.now.index self.now.row.addr
+            self.now.row.size (place_in_file sliced.now.held.place self.now.place) }
+    {
+        sliced.numbered(
+            PartKind::SectionMemory,
+            self.memory(),
+            self.place,
+            self.index,
+        )
+    }
+
     // Its addresses.
-    fn memory(&self) -> Span
+    pub(crate) fn memory(&self) -> Span
         ensures start { result.start ≡ self.now.row.addr }
         ensures len { result.len ≡ self.now.row.size }
     {

@@ -6,6 +6,7 @@ ghost use Rattle.macho_fields.specs.declared.rule.Rule.{Rule};
 ghost use Rattle.macho_explain.specs.Compared.{HasSegment};
 ghost use Rattle.macho_explain.specs.Explained.{ExplainsIn, IsSpot};
 ghost use Rattle.macho_explain.specs.Explain.{IsSegmentFound, IsSegmentRow, MeetsSegment, NoSegmentMeets};
+ghost use Rattle.macho_tables.specs.Segments.{is_writable as is_writable_of};
 
 use crate::command::command_here;
 use crate::conflict::{Conflict, shared};
@@ -16,9 +17,12 @@ use crate::spot::Spot;
 use crate::whole::data_table;
 use macho_fields::Span;
 use macho_fields::header::loader::LC_CODE_SIGNATURE;
+use macho_fields::header::loader::mach_header_64::CPUTYPE;
+use macho_fields::header::vm_prot::{VM_PROT_EXECUTE, VM_PROT_READ, VM_PROT_WRITE};
 use macho_rows::cursor::START;
 use macho_rows::load::{Wanted, next_wanted};
 use macho_rows::segments::{KesvuotSegment, row_of};
+use macho_unambiguous::pages::page_size;
 
 // A segment: where its command begins, its index among the segments, and its fields.
 #[derive(Clone, Copy)]
@@ -45,6 +49,8 @@ pub(crate) enum SegmentWith {
     SharingMemory(Span, u64),
     // The first that shares a byte of the image with a span, before the command at a place.
     SharingFile(Span, u64),
+    // The first that can be written, after the command at a place.
+    WritablePast(u64),
 }
 
 // The first segment that is sought, if there is one.
@@ -75,7 +81,7 @@ pub(crate) fn segment_at(sliced: &Sliced, place: u64) -> Option<Part> {
 }
 
 // The segment whose command begins at the place.
-fn segment_here(sliced: &Sliced) -> Option<(Spot, SegmentAt)>
+pub(crate) fn segment_here(sliced: &Sliced) -> Option<(Spot, SegmentAt)>
     ensures { MatchOption result (¬ HasSegment (bytes_of sliced.now.held.bytes) sliced.now.place)
         (λ found. IsSpot sliced.now found.0
         × IsSegmentRow (bytes_of sliced.now.held.bytes) found.1 × (found.1.place ≡ sliced.now.place)) }
@@ -106,7 +112,15 @@ impl SegmentAt {
             SegmentWith::SharingFile(span, end) => {
                 self.place < end && span.shares(&self.file_part())
             }
+            SegmentWith::WritablePast(place) => place < self.place && self.is_writable(),
         }
+    }
+
+    // Whether it is mapped, and its initial protection allows writing.
+    fn is_writable(&self) -> bool
+        ensures { (image : List ℕ) → IsSegmentRow image self.now → result ≡ is_writable_of image self.now.place }
+    {
+        self.row.vmsize > 0 && self.row.initprot & VM_PROT_WRITE != 0
     }
 
     // Its addresses.
@@ -189,6 +203,38 @@ pub(crate) fn segment_file_overlap(sliced: &Sliced) -> Option<Explanation>
     let (first, last) = shared(own, earlier.file_part())?;
     let (one, other) = (sliced.segment(&segment), sliced.segment(&earlier));
     Some(at.shows(sliced.sharing(one, other, first, last)))
+}
+
+// The address of a mapped segment, or its offset in the file, and the size of a page.
+#[inline(never)]
+pub(crate) fn segment_page(sliced: &Sliced) -> Option<Explanation>
+    ensures { ExplainsIn Rule.SegmentPage sliced.now result }
+{
+    let (at, segment) = segment_here(sliced)?;
+    let (row, page) = (segment.row, page_size(sliced.word(CPUTYPE)));
+    if row.vmsize > 0 && row.vmaddr % page != 0 {
+        let memory = sliced.memory(&segment);
+        return Some(at.shows(Conflict::alone(memory, row.vmaddr, page)));
+    }
+    let bytes = sliced.segment(&segment);
+    Some(at.shows(Conflict::alone(bytes, row.fileoff, page)))
+}
+
+// The initial protection of a segment, and its maximum protection if that lacks a bit, or otherwise all bits that have a
+// meaning.
+#[inline(never)]
+pub(crate) fn segment_protection(sliced: &Sliced) -> Option<Explanation>
+    ensures { ExplainsIn Rule.SegmentProtection sliced.now result }
+{
+    let (at, segment) = segment_here(sliced)?;
+    let (initprot, maxprot) = (segment.row.initprot, segment.row.maxprot);
+    let limit = if initprot & maxprot != initprot {
+        maxprot
+    } else {
+        VM_PROT_READ + VM_PROT_WRITE + VM_PROT_EXECUTE
+    };
+    let memory = sliced.memory(&segment);
+    Some(at.shows(Conflict::alone(memory, u64::from(initprot), u64::from(limit))))
 }
 
 // The bytes that the segment at the place shares with the code signature.

@@ -1,17 +1,20 @@
 //! Where a load command is, among those of any bytes.
 
-ghost use Rattle.std.specs.Prelude.{◌↔◌, ◌⊎◌, IsTrue, MatchOption};
+ghost use Rattle.std.specs.Prelude.{◌≡◌, ◌↔◌, ◌⊎◌, IsTrue, MatchOption};
 ghost use Rattle.macho_fields.specs.Bytes.{bytes_of};
 ghost use Rattle.macho_rows.specs.Loads.{IsLoad};
 ghost use Rattle.macho_explain.specs.Commanded.{IsEnd};
-ghost use Rattle.macho_explain.specs.Explain.{IsUncounted, IsWalked, Meets, NoneMeets};
+ghost use Rattle.macho_explain.specs.Explain.{IsUncounted, IsWalked, Meets, NoneMeets, platform_shown};
 
-use macho_fields::Bytes;
-use macho_fields::header::loader::MACH_HEADER_64_SIZE;
+use macho_fields::header::loader::build_version_command::PLATFORM;
+use macho_fields::header::loader::{LC_BUILD_VERSION, MACH_HEADER_64_SIZE};
+use macho_fields::{Bytes, Order};
 use macho_rows::cursor::START;
-use macho_rows::load::{Load, Wanted, next_wanted};
+use macho_rows::load::{Load, Wanted, loads_library, next_wanted, version_min_platform};
 use macho_rows::sections::nsects_at;
 use macho_tables::kinds::share_kind;
+use macho_unambiguous::entry::is_entry;
+use macho_unambiguous::order::is_eager;
 
 // Which command is sought.
 #[derive(Clone, Copy)]
@@ -24,6 +27,12 @@ pub(crate) enum Sought {
     First(u32),
     // The first one that names linked data of a kind of the commands with a `cmd`.
     OfKind(u32),
+    // The first one with versions of a platform.
+    OfPlatform(u32),
+    // The first one after a place that names a library that is loaded at once.
+    EagerPast(u64),
+    // The first one that says where the program begins.
+    Entry,
 }
 
 // A load command, with its index, and how many sections are before it.
@@ -66,7 +75,21 @@ fn is_sought(image: Bytes, load: Load, sought: Sought) -> bool
         Sought::At(place) => load.place <= place && place - load.place < load.size,
         Sought::First(cmd) => load.cmd == cmd,
         Sought::OfKind(cmd) => share_kind(load.cmd, cmd),
+        Sought::OfPlatform(platform) => platform_of(image, load) == Some(platform),
+        Sought::EagerPast(place) => place < load.place && is_eager(load.cmd),
+        Sought::Entry => is_entry(load.cmd),
     }
+}
+
+// The platform whose versions a command has, if it has some.
+pub(crate) fn platform_of(image: Bytes, load: Load) -> Option<u32>
+    requires { IsLoad (bytes_of image) load }
+    ensures { result ≡ platform_shown (bytes_of image.entry) load.place }
+{
+    if load.cmd != LC_BUILD_VERSION {
+        return version_min_platform(load.cmd);
+    }
+    image.u32_at(Order::Little, load.place + PLATFORM)
 }
 
 // Where the walk over the commands ends, and the last command.

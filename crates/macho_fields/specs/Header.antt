@@ -116,6 +116,8 @@ pub record AreLoaderConstants : Type 0 where
   pub LC_FILESET_ENTRY : loader.LC_FILESET_ENTRY ≡ 0x80000035
   -- segment_command_64.flags: a kernel decrypts the pages of the segment
   pub SG_PROTECTED_VERSION_1 : loader.SG_PROTECTED_VERSION_1 ≡ 0x8
+  -- section_64.flags: the section is for debuggers alone
+  pub S_ATTR_DEBUG : loader.S_ATTR_DEBUG ≡ 0x02000000
   -- section_64.flags: the mask of the type, and the types without bytes in the file
   pub SECTION_TYPE : loader.SECTION_TYPE ≡ 0x000000ff
   pub S_ZEROFILL : loader.S_ZEROFILL ≡ 0x1
@@ -205,6 +207,8 @@ pub record ArePlatforms : Type 0 where
 
 -- mach/machine.h
 pub record AreMachineConstants : Type 0 where
+  -- cputype: the bit of a processor with 64-bit addresses
+  pub CPU_ARCH_ABI64 : machine.CPU_ARCH_ABI64 ≡ 0x01000000
   -- cputype, where the headers write CPU_TYPE_X86 | CPU_ARCH_ABI64: 7 or 12, and 0x01000000
   pub CPU_TYPE_X86_64 : machine.CPU_TYPE_X86_64 ≡ 0x01000007
   pub CPU_TYPE_ARM64 : machine.CPU_TYPE_ARM64 ≡ 0x0100000c

@@ -4,20 +4,21 @@ use Rattle.std.specs.Prelude.{ℕ, List, [], ◌∷◌, ◌++◌, ◌==◌, Opti
 use Rattle.std.specs.Str.{bytes_eq}
 use Rattle.std.specs.Fmt.{digits}
 use Rattle.macho_fields.specs.declared.rule.Profile.{Profile}
-use Rattle.macho_fields.specs.declared.rule.Profile.TheVariants.{Layout, Strict, Linked, Sealed}
+use Rattle.macho_fields.specs.declared.rule.Profile.TheVariants.{Layout, Strict, Linked, Unambiguous, Sealed}
 use Rattle.macho_fields.specs.declared.rule.Rule.{Rule}
 use Rattle.macho_fields.specs.declared.rule.Rule.TheVariants as rule
 use Rattle.macho_fields.specs.declared.rule.Break.{Break}
 
 -- all profiles, in the order of judgment
 abbrev pub all_profiles : List Profile
-all_profiles = Layout ∷ Strict ∷ Linked ∷ Sealed ∷ []
+all_profiles = Layout ∷ Strict ∷ Linked ∷ Unambiguous ∷ Sealed ∷ []
 
 -- the name of a profile, as ASCII text
 abbrev pub profile_name : Profile → List ℕ
 profile_name Layout = codes "layout"
 profile_name Strict = codes "strict"
 profile_name Linked = codes "linked"
+profile_name Unambiguous = codes "unambiguous"
 profile_name Sealed = codes "sealed"
 
 -- the number of a profile, which never changes. No profile has the number 0
@@ -25,7 +26,8 @@ abbrev pub profile_number : Profile → ℕ
 profile_number Layout = 1
 profile_number Strict = 2
 profile_number Linked = 3
-profile_number Sealed = 4
+profile_number Unambiguous = 4
+profile_number Sealed = 5
 
 -- the profile with this number, and the one with this name
 abbrev pub profile_numbered : ℕ → Option Profile
@@ -116,11 +118,24 @@ rank rule.ObsoleteTable = 77
 rank rule.Relocation = 78
 rank rule.Thread = 79
 rank rule.CommandContent = 80
-rank rule.SignatureMissing = 81
-rank rule.SignatureExecutable = 82
-rank rule.DirectoryRepeated = 83
-rank rule.SignatureSlack = 84
-rank rule.SignatureHash = 85
+rank rule.FatCount = 81
+rank rule.FatHeader = 82
+rank rule.FatPage = 83
+rank rule.CommandKnown = 84
+rank rule.CommandOnce = 85
+rank rule.SegmentName = 86
+rank rule.SegmentPage = 87
+rank rule.SegmentProtection = 88
+rank rule.BytesEncrypted = 89
+rank rule.NumberShift = 90
+rank rule.SectionName = 91
+rank rule.SectionAlone = 92
+rank rule.EntryOne = 93
+rank rule.SignatureMissing = 94
+rank rule.SignatureExecutable = 95
+rank rule.DirectoryRepeated = 96
+rank rule.SignatureSlack = 97
+rank rule.SignatureHash = 98
 
 -- the number by which programs know a rule. It never changes: a rule that is added takes the next free
 -- one, wherever it stands
@@ -210,6 +225,19 @@ rule_number rule.IndirectRange = 82
 rule_number rule.ObsoleteTable = 83
 rule_number rule.InitOffset = 84
 rule_number rule.SignatureExecutable = 85
+rule_number rule.FatCount = 86
+rule_number rule.FatHeader = 87
+rule_number rule.FatPage = 88
+rule_number rule.CommandKnown = 89
+rule_number rule.CommandOnce = 90
+rule_number rule.SegmentName = 91
+rule_number rule.SegmentPage = 92
+rule_number rule.SegmentProtection = 93
+rule_number rule.BytesEncrypted = 94
+rule_number rule.NumberShift = 95
+rule_number rule.SectionName = 96
+rule_number rule.SectionAlone = 97
+rule_number rule.EntryOne = 98
 
 -- the profile that a rule belongs to
 abbrev pub profile_of : Rule → Profile
@@ -262,6 +290,19 @@ profile_of rule.ObsoleteTable = Linked
 profile_of rule.Relocation = Linked
 profile_of rule.Thread = Linked
 profile_of rule.CommandContent = Linked
+profile_of rule.FatCount = Unambiguous
+profile_of rule.FatHeader = Unambiguous
+profile_of rule.FatPage = Unambiguous
+profile_of rule.CommandKnown = Unambiguous
+profile_of rule.CommandOnce = Unambiguous
+profile_of rule.SegmentName = Unambiguous
+profile_of rule.SegmentPage = Unambiguous
+profile_of rule.SegmentProtection = Unambiguous
+profile_of rule.BytesEncrypted = Unambiguous
+profile_of rule.NumberShift = Unambiguous
+profile_of rule.SectionName = Unambiguous
+profile_of rule.SectionAlone = Unambiguous
+profile_of rule.EntryOne = Unambiguous
 profile_of rule.SignatureMissing = Sealed
 profile_of rule.SignatureExecutable = Sealed
 profile_of rule.DirectoryRepeated = Sealed
@@ -351,6 +392,19 @@ name_of rule.ObsoleteTable = codes "obsolete-table"
 name_of rule.Relocation = codes "relocation"
 name_of rule.Thread = codes "thread"
 name_of rule.CommandContent = codes "command-content"
+name_of rule.FatCount = codes "fat-count"
+name_of rule.FatHeader = codes "fat-header"
+name_of rule.FatPage = codes "fat-page"
+name_of rule.CommandKnown = codes "command-known"
+name_of rule.CommandOnce = codes "command-once"
+name_of rule.SegmentName = codes "segment-name"
+name_of rule.SegmentPage = codes "segment-page"
+name_of rule.SegmentProtection = codes "segment-protection"
+name_of rule.BytesEncrypted = codes "bytes-encrypted"
+name_of rule.NumberShift = codes "number-shift"
+name_of rule.SectionName = codes "section-name"
+name_of rule.SectionAlone = codes "section-alone"
+name_of rule.EntryOne = codes "entry-one"
 name_of rule.SignatureMissing = codes "signature-missing"
 name_of rule.SignatureExecutable = codes "signature-executable"
 name_of rule.DirectoryRepeated = codes "directory-repeated"

@@ -25,11 +25,15 @@ pub enum Profile {
     /// what symbols, stubs and relocations refer to; where threads and initializers begin; and what all other commands
     /// of `loader.h` hold.
     Linked = 3,
+    /// Readers that choose slices, segments, sections, load commands and entry points in different ways choose the same
+    /// ones, and a kernel that maps whole pages shows the bytes that the headers describe. The profile does not speak
+    /// of names of symbols, exports, binds and signatures.
+    Unambiguous = 4,
     /// Each image has a code signature; each code directory has the hashes of all bytes before the signature and of the
     /// blobs in special slots; no byte of the signature can be executed; and each nonzero byte from the signature on is
     /// in the signature's header, its index or a blob. The profile does not say who signed, and it reads nothing
     /// outside of the file.
-    Sealed = 4,
+    Sealed = 5,
     // registry: end
 }
 
@@ -41,6 +45,7 @@ macro_rules! profile_name_before {
             Profile::Layout => concat!("layout", $end),
             Profile::Strict => concat!("strict", $end),
             Profile::Linked => concat!("linked", $end),
+            Profile::Unambiguous => concat!("unambiguous", $end),
             Profile::Sealed => concat!("sealed", $end),
             // registry: end
         }
@@ -54,6 +59,7 @@ impl Profile {
         Profile::Layout,
         Profile::Strict,
         Profile::Linked,
+        Profile::Unambiguous,
         Profile::Sealed,
         // registry: end
     ];
@@ -273,6 +279,35 @@ pub enum Rule {
     Thread = 76,
     /// What a load command holds is not inside of it or of the image, or the command has no place in it.
     CommandContent = 77,
+    /// A universal file has so many slices that readers take it for a Java class.
+    FatCount = 86,
+    /// A slice is not for the processor that its entry names, or its processor is judged and the slice is not read.
+    FatHeader = 87,
+    /// A slice does not begin at a page, or another slice begins in its last page.
+    FatPage = 88,
+    /// A load command is of a kind that no rule knows.
+    CommandKnown = 89,
+    /// A load command is of the kind, or for the platform, of an earlier one, and readers take only one of the two.
+    CommandOnce = 90,
+    /// A segment has no name, the name of an earlier one or bytes past its name, or the base is not at the segment
+    /// named `__TEXT`.
+    SegmentName = 91,
+    /// A segment does not begin at a page, in memory or in the file.
+    SegmentPage = 92,
+    /// The initial protection of a segment has a bit that its maximum protection lacks, or an unknown one.
+    SegmentProtection = 93,
+    /// Bytes of the image are encrypted, so other ones run.
+    BytesEncrypted = 94,
+    /// A number of a segment or of a library means another one to readers that skip some.
+    NumberShift = 95,
+    /// A section has the names of an earlier one, or bytes past its name, or another segment name than its segment.
+    SectionName = 96,
+    /// A section has an address of an earlier one, or hides a byte of its segment, or lies over a segment that is not
+    /// its own.
+    SectionAlone = 97,
+    /// A second command says where the program begins, or the image is not a program, or readers find another byte
+    /// there, or data.
+    EntryOne = 98,
     /// An image has no code signature with a code directory.
     SignatureMissing = 78,
     /// A byte of the code signature lies in memory that may be executed.
@@ -371,6 +406,19 @@ macro_rules! name_before {
             Rule::Relocation => concat!("relocation", $end),
             Rule::Thread => concat!("thread", $end),
             Rule::CommandContent => concat!("command-content", $end),
+            Rule::FatCount => concat!("fat-count", $end),
+            Rule::FatHeader => concat!("fat-header", $end),
+            Rule::FatPage => concat!("fat-page", $end),
+            Rule::CommandKnown => concat!("command-known", $end),
+            Rule::CommandOnce => concat!("command-once", $end),
+            Rule::SegmentName => concat!("segment-name", $end),
+            Rule::SegmentPage => concat!("segment-page", $end),
+            Rule::SegmentProtection => concat!("segment-protection", $end),
+            Rule::BytesEncrypted => concat!("bytes-encrypted", $end),
+            Rule::NumberShift => concat!("number-shift", $end),
+            Rule::SectionName => concat!("section-name", $end),
+            Rule::SectionAlone => concat!("section-alone", $end),
+            Rule::EntryOne => concat!("entry-one", $end),
             Rule::SignatureMissing => concat!("signature-missing", $end),
             Rule::SignatureExecutable => concat!("signature-executable", $end),
             Rule::DirectoryRepeated => concat!("directory-repeated", $end),
@@ -465,6 +513,19 @@ impl Rule {
         Rule::Relocation,
         Rule::Thread,
         Rule::CommandContent,
+        Rule::FatCount,
+        Rule::FatHeader,
+        Rule::FatPage,
+        Rule::CommandKnown,
+        Rule::CommandOnce,
+        Rule::SegmentName,
+        Rule::SegmentPage,
+        Rule::SegmentProtection,
+        Rule::BytesEncrypted,
+        Rule::NumberShift,
+        Rule::SectionName,
+        Rule::SectionAlone,
+        Rule::EntryOne,
         Rule::SignatureMissing,
         Rule::SignatureExecutable,
         Rule::DirectoryRepeated,
@@ -598,6 +659,19 @@ impl Rule {
             | Rule::Relocation
             | Rule::Thread => Profile::Linked,
             Rule::CommandContent => Profile::Linked,
+            Rule::FatCount
+            | Rule::FatHeader
+            | Rule::FatPage
+            | Rule::CommandKnown
+            | Rule::CommandOnce
+            | Rule::SegmentName
+            | Rule::SegmentPage
+            | Rule::SegmentProtection
+            | Rule::BytesEncrypted
+            | Rule::NumberShift
+            | Rule::SectionName
+            | Rule::SectionAlone
+            | Rule::EntryOne => Profile::Unambiguous,
             Rule::SignatureMissing
             | Rule::SignatureExecutable
             | Rule::DirectoryRepeated

@@ -8,6 +8,7 @@ use macho_linked::verify_linked;
 use macho_rules::{Refusal, Verified, verify};
 use macho_sealed::verify_sealed;
 use macho_strict::verify_strictly;
+use macho_unambiguous::verify_unambiguous;
 use std::alloc::Global;
 
 /// Decides the rules of a file, of the profiles up to this one: accepts it, or returns the first broken
@@ -25,6 +26,7 @@ pub fn verify_by<'a>(
         Profile::Layout => verify(alloc, file),
         Profile::Strict => verify_strictly(alloc, file),
         Profile::Linked => verify_linked(alloc, file),
+        Profile::Unambiguous => verify_unambiguous(alloc, file),
         Profile::Sealed => verify_sealed(alloc, file),
     }
 }

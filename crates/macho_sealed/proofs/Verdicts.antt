@@ -9,14 +9,14 @@ use Rattle.macho_rules.specs.declared.refusal.Refusal.{Refusal}
 use Rattle.macho_rules.specs.declared.refusal.Refusal.TheVariants as refusal
 use Rattle.macho_rules.proofs.Profiles.{layout_keeps, images_keep}
 use Rattle.macho_linked.specs.Rules.{BreaksImage as LinkedImage, IsLinkedUnbroken}
-use Rattle.macho_linked.specs.Verdict.{IsLinkedRefusal}
 use Rattle.macho_sealed.specs.Rules.{BreaksImage, IsSealedUnbroken}
 use Rattle.macho_sealed.specs.Verdict.{IsUnbrokenBefore, IsSealedRefusal, TakesMemory}
+use Rattle.macho_unambiguous.specs.Verdict.{IsUnambiguousRefusal}
 
--- a refusal by the linked verdict is one of the sealed
-pub linked_refused : (file : List ℕ) (r : Refusal) → IsLinkedRefusal file r → IsSealedRefusal file r
-linked_refused file (refusal.Broken b) refused = inl refused
-linked_refused file refusal.Memory takes = takes
+-- a refusal by the unambiguous verdict is one of the sealed
+pub unambiguous_refused : (file : List ℕ) (r : Refusal) → IsUnambiguousRefusal file r → IsSealedRefusal file r
+unambiguous_refused file (refusal.Broken b) refused = inl refused
+unambiguous_refused file refusal.Memory takes = takes
 
 -- and so is one by the sealed rules, where the file breaks no other
 pub sealed_refused : (file : List ℕ) → IsUnbrokenBefore file → (r : Refusal) → IsRefusalOfImages BreaksImage file TakesMemory r → IsSealedRefusal file r

@@ -6,7 +6,6 @@ use Rattle.macho_fields.specs.NonZero.{IsNonZero}
 use Rattle.macho_fields.specs.Segment.{all_segments, vmaddr, fileoff, RunsAt}
 use Rattle.macho_fields.specs.Universal.{OfEachImage}
 use Rattle.macho_fields.specs.declared.header.loader.TheConstants as loader
-use Rattle.macho_linked.specs.Linked.{KeepsLinked}
 use Rattle.macho_sealed.specs.Digests.{HasHash}
 use Rattle.macho_sealed.specs.Pages.{bytes_in, page_at, code_slot}
 use Rattle.macho_sealed.specs.Rules.{IsSealedUnbroken}
@@ -20,6 +19,7 @@ use Rattle.macho_signature.specs.declared.code_directory.CodeDirectory.{CodeDire
 use Rattle.macho_spans.specs.Span.{Holds, end_of}
 use Rattle.macho_spans.specs.declared.span.Span.{Span}
 use Rattle.macho_tables.specs.DataTables.{IsDataTable}
+use Rattle.macho_unambiguous.specs.Unambiguous.{KeepsUnambiguous}
 
 -- A place of the image is in exactly one page of a directory, the page k, and the directory, which has this blob, has
 -- the hash of that page.
@@ -71,8 +71,8 @@ AreSealed = OfEachImage IsSealed
 
 -- What holds of a file that the sealed verdict accepts
 pub record KeepsSealed (file : List ℕ) : Type 0 where
-  -- the linked verdict accepts it
-  pub linked : KeepsLinked file
+  -- the unambiguous verdict accepts it
+  pub readers : KeepsUnambiguous file
   -- it breaks no sealed rule
   pub unbroken : IsSealedUnbroken file
   -- the code signature of each image has the hashes of all bytes before it and of the blobs in it, and each other byte

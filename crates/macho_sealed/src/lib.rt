@@ -1,5 +1,5 @@
 #![tactic(auto)]
-//! The sealed profile, of a file that breaks no rule of the linked one: each image has a code signature, whose code
+//! The sealed profile, of a file that breaks no rule of the unambiguous one: each image has a code signature, whose code
 //! directories have the hashes of all bytes before it and of the blobs in special slots, as requirements and
 //! entitlements. Each other byte of the image is zero, or in a part of the signature, which may not be executed.
 //!

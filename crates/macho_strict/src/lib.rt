@@ -22,5 +22,6 @@ pub mod verdict;
 
 pub use disjoint::Disjoint;
 pub use elements::{Element, Elements};
+pub use stray::entry_size;
 pub use unclaimed::{code_of, is_code};
 pub use verdict::verify_strictly;

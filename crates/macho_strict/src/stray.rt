@@ -51,8 +51,8 @@ fn table(verified: &Verified) -> Option<Span>
     })
 }
 
-// The size in bytes of an entry of the table, or `None` if the file is not universal.
-fn entry_size(file: Bytes) -> Option<u64>
+/// The size in bytes of an entry of the table, or `None` if the file is not universal.
+pub fn entry_size(file: Bytes) -> Option<u64>
     ensures { MatchOption result (¬ IsUniversal (bytes_of file.entry))
         (λ size. IsUniversal (bytes_of file.entry) × (size ≡ entry_size (bytes_of file.entry))) }
 {

@@ -1,4 +1,4 @@
-//! The places of commands, and those at which rules are first broken.
+//! The places of commands, segments and sections, and those at which rules are first broken.
 
 ghost use Rattle.std.specs.Prelude.{◌≡◌, ◌+◌, ◌^◌, ◌<◌, unwrap_or, IfSome, IsTrue, Some};
 ghost use Rattle.std.specs.Option.{option_map};
@@ -9,7 +9,7 @@ ghost use Rattle.macho_tables.specs.Places.{dyld_info as dyld_info_of, lesser as
 
 use macho_fields::header::loader::{LC_DYLD_INFO, LC_DYLD_INFO_ONLY};
 use macho_fields::{TableFields, Width};
-use macho_image::{Command, Image};
+use macho_image::{Command, Image, Section, Segment};
 
 /// The place of a command, if there is one.
 pub fn place_of(command: Option<Command>) -> Option<u64>
@@ -17,6 +17,26 @@ pub fn place_of(command: Option<Command>) -> Option<u64>
 {
     match command {
         Some(found) => Some(found.place),
+        None => None,
+    }
+}
+
+/// The place of a segment, if there is one.
+pub fn place_of_segment(segment: Option<Segment>) -> Option<u64>
+    ensures { result ≡ option_map (λ found. found.place) segment.entry }
+{
+    match segment {
+        Some(found) => Some(found.place()),
+        None => None,
+    }
+}
+
+/// The place of a section, if there is one.
+pub fn place_of_section(section: Option<Section>) -> Option<u64>
+    ensures { result ≡ option_map (λ found. found.place) section.entry }
+{
+    match section {
+        Some(found) => Some(found.place()),
         None => None,
     }
 }

@@ -1,17 +1,18 @@
 -- All readers take one address for the base of an image.
-use Rattle.std.proofs.Common.{◌≡◌, ◌==◌, ◌&&◌, ℕ, ◌+◌, ◌≤◌, ◌<◌, ◌⊎◌, List, [], ◌∷◌, Contains, Bool, true, false, Option, None, Some, refl, sym, ap, ◌∙◌, subst, rules, tests, inl, inr}
+use Rattle.std.proofs.Common.{◌≡◌, ◌==◌, ◌&&◌, ℕ, ◌+◌, ◌≤◌, ◌<◌, ◌⊎◌, List, [], ◌∷◌, Contains, Bool, true, false, Option, None, Some, refl, sym, ap, ◌∙◌, subst, arith, rules, tests, inl, inr}
 use Rattle.std.specs.Prelude.{cond, nat_lt, find}
 use Rattle.std.specs.Option.{option_map}
-use Rattle.std.proofs.lemmas.Bool.{cases_order}
+use Rattle.std.proofs.lemmas.Bool.{and_from, eq-eqb, lt-ltb}
 use Rattle.std.proofs.lemmas.Option.{none-some, same_Some}
-use Rattle.macho_fields.proofs.Lists.{any_of, contains_first, contains_later, first_or_later, none_in_nil}
+use Rattle.macho_fields.proofs.Lists.{contains_first, contains_later, first_or_later, none_in_nil}
 use Rattle.macho_fields.specs.Segment.{all_segments, vmaddr, vmsize, fileoff, filesize, shows_start}
 use Rattle.macho_fields.specs.declared.rule.Rule.TheVariants as rule
-use Rattle.macho_strict.specs.Rules.{BreaksStrictImage, IsByteOfSegment}
+use Rattle.macho_strict.specs.Rules.{BreaksStrictImage, HoldsHeaders, IsByteOfSegment}
 use Rattle.macho_tables.specs.Segments.{IsText}
 use Rattle.macho_unambiguous.specs.Models.{IsBaseOf, HasOneBase}
 use Rattle.macho_unambiguous.specs.Segments.{BreaksSegmentName}
 use Rattle.macho_unambiguous.proofs.Cases.{same_some, ended}
+use Rattle.macho_unambiguous.proofs.FileParts.{one_part}
 
 -- what `find` returns
 
@@ -50,33 +51,30 @@ module _ (image : List ℕ) (strict : (place : ℕ) → ¬ BreaksStrictImage ima
   first_byte : (segment : ℕ) → Shows segment → IsByteOfSegment image segment 0
   first_byte segment shows = starts (fileoff image segment) (filesize image segment) (vmsize image segment) shows
 
-  start_alone : (a b : ℕ) → Contains (all_segments image) a → Contains (all_segments image) b → Shows a → Shows b → a < b → ⊥
-  start_alone a b in_a in_b shows_a shows_b less =
-      strict b (
-        in_b,
-        any_of (λ earlier. (earlier < b) × ((place : ℕ) × IsByteOfSegment image earlier place × IsByteOfSegment image b place)) (all_segments image) a in_a
-            (less, (0, first_byte a shows_a, first_byte b shows_b)),
-      )
-
   one_start : (a b : ℕ) → Contains (all_segments image) a → Contains (all_segments image) b → Shows a → Shows b → a ≡ b
-  one_start a b in_a in_b shows_a shows_b = elim (cases_order a b) [
-    | inl same ↦ same
-    | inr (inl less) ↦ absurd (start_alone a b in_a in_b shows_a shows_b less)
-    | inr (inr less) ↦ absurd (start_alone b a in_b in_a shows_b shows_a less)
-  ]
+  one_start a b in_a in_b shows_a shows_b = one_part image strict a b 0 in_a in_b (first_byte a shows_a) (first_byte b shows_b)
 
   abbrev IsBase : ℕ → Type 0
   IsBase address = (segment : ℕ) × (find (shows_start image) (all_segments image) ≡ Some segment) × (address ≡ vmaddr image segment)
 
-  the_base : (answer : ℕ) → IsBaseOf image answer → IsBase answer
-  the_base answer (inl is) = from_map (vmaddr image) (find (shows_start image) (all_segments image)) answer is
-  the_base answer (inr (segment, at, inl (has, shows, _))) =
+  from_start : (answer segment : ℕ) → answer ≡ vmaddr image segment → Contains (all_segments image) segment → Shows segment → IsBase answer
+  from_start answer segment at has shows =
       let (base, is) = find_some (shows_start image) (all_segments image) segment has shows in
       let (in_base, shows_base) = find_is (shows_start image) (all_segments image) base is in
       (base, is, at ∙ ap (vmaddr image) (one_start segment base has in_base shows shows_base))
-  the_base answer (inr (segment, at, inr end)) =
+
+  -- a segment with the headers has the start of the file
+  holder_shows : (segment : ℕ) → HoldsHeaders image segment → Shows segment
+  holder_shows segment (start, holds, mapped) =
+      and_from _ _ (and_from _ _ (eq-eqb _ _ start) (lt-ltb _ _ (omega (arith, holds)))) (lt-ltb _ _ mapped)
+
+  the_base : (answer : ℕ) → IsBaseOf image answer → IsBase answer
+  the_base answer (inl is) = from_map (vmaddr image) (find (shows_start image) (all_segments image)) answer is
+  the_base answer (inr (segment, at, inl (has, shows, _))) = from_start answer segment at has shows
+  the_base answer (inr (segment, at, inr (inl (has, holds)))) = from_start answer segment at has (holder_shows segment holds)
+  the_base answer (inr (segment, at, inr (inr end))) =
       let (has, text) = ended (all_segments image) (IsText image) segment end in
-      (segment, same_some (find (shows_start image) (all_segments image)) segment (λ other. none segment (has, inr (inr (inl (text, other))))), at)
+      (segment, same_some (find (shows_start image) (all_segments image)) segment (λ other. none segment (has, inr (inr (inl (inl (text, other)))))), at)
 
   pub one_base : HasOneBase image
   one_base a b is_a is_b =

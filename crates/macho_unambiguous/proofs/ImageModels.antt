@@ -104,7 +104,8 @@ module _ (image : List ℕ) (none : (place : ℕ) → ¬ BreaksSectionName image
   has_names answer (inl (section, at, has, is, _)) = (section, at, has, is)
   has_names answer (inr (inl (section, at, has, is, _))) = (section, at, has, is)
   has_names answer (inr (inr (inl (section, at, has, is, _)))) = (section, at, has, own_names section has is)
-  has_names answer (inr (inr (inr (section, at, has, is, _)))) = (section, at, has, own_names section has is)
+  has_names answer (inr (inr (inr (inl (section, at, has, is, _))))) = (section, at, has, own_names section has is)
+  has_names answer (inr (inr (inr (inr (section, at, has, is, _))))) = (section, at, has, is.0)
 
   one_named : (a b : ℕ) → IsNamed a → IsNamed b → a ≡ b
   one_named a b (s, at_s, in_s, is_s) (t, at_t, in_t, is_t) = elim (cases_order s.1 t.1) [

@@ -9,7 +9,7 @@ use Rattle.macho_fields.specs.Segment.{all_segments}
 use Rattle.macho_rules.proofs.Searches.{any_of, one_of, mapped_has}
 use Rattle.macho_tables.proofs.Places.{least_same}
 use Rattle.macho_tables.specs.Segments.{is_writable}
-use Rattle.macho_unambiguous.specs.Order.{IsEager, ShiftsBefore, BreaksNumberShift}
+use Rattle.macho_unambiguous.specs.Order.{IsEager, ShiftsBefore, ShiftsAt}
 
 module _ {X : Type 0} (place : X → ℕ) (P : X → Type 0) where
   -- a place is before what was found exactly if an item that was passed is past it
@@ -59,14 +59,14 @@ module _ {X : Type 0} (place : X → ℕ) (P : X → Type 0) where
           let (q, has, here) = one_of (λ q. (p < place (at q)) × P (at q)) places any in
           (last p).1 (any_of (λ x. (p < place x) × P x) (map at places) (at q) (contains_mapped at places q has) here)
 
--- the rule, by the last places
+-- what shifts the numbers, by the last places
 pub shifts_same : (image : List ℕ) (writable eager found : Option ℕ)
     → ((p : ℕ) → IsSomeAnd writable (λ last. p < last) ↔ Any (λ later. (p < later) × (is_writable image later ≡ true)) (all_segments image))
     → ((p : ℕ) → IsSomeAnd eager (λ last. p < last) ↔ Any (λ later. (p < later) × IsEager (command_cmd image later)) (commands_of image))
-    → IsLeastPlace (λ place. Contains (commands_of image) place × ShiftsBefore writable eager image place) found → IsLeastPlace (BreaksNumberShift image) found
+    → IsLeastPlace (λ place. Contains (commands_of image) place × ShiftsBefore writable eager image place) found → IsLeastPlace (ShiftsAt image) found
 unfolding ShiftsBefore
 shifts_same image writable eager found segments libraries =
-    least_same (λ place. Contains (commands_of image) place × ShiftsBefore writable eager image place) (BreaksNumberShift image) found (λ place. (
+    least_same (λ place. Contains (commands_of image) place × ShiftsBefore writable eager image place) (ShiftsAt image) found (λ place. (
       λ broken. (
         broken.0,
         elim broken.1 [

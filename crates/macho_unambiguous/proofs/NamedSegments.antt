@@ -58,11 +58,11 @@ module _ (image : List ℕ) where
   pub both : (place : ℕ) → (Misnamed place ⊎ Repeats place) ↔ BreaksSegmentName image place
   both place = (
     λ either. elim either [
-      | inl one ↦ (one.0, elim one.1 [ inl tail ↦ inl tail | inr text ↦ inr (inr text) ])
+      | inl one ↦ (one.0, elim one.1 [ inl tail ↦ inl tail | inr alone ↦ inr (inr alone) ])
       | inr other ↦ (other.0, inr (inl other.1))
     ],
     λ broken. elim broken.1 [
       | inl tail ↦ inl (broken.0, inl tail)
-      | inr rest ↦ elim rest [ inl earlier ↦ inr (broken.0, earlier) | inr text ↦ inl (broken.0, inr text) ]
+      | inr rest ↦ elim rest [ inl earlier ↦ inr (broken.0, earlier) | inr alone ↦ inl (broken.0, inr alone) ]
     ],
   )

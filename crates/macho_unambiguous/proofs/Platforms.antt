@@ -50,7 +50,7 @@ get_same (x ∷ xs) zero d e less = refl
 get_same (x ∷ xs) (suc k) d e less = get_same xs k d e (omega (arith, less))
 
 -- each command comes before each later one
-rises_from : (image : List ℕ) (start : ℕ) (xs : List ℕ) (m : ℕ) → Follow image start xs m → Ordered (λ a b. a < b) xs
+pub rises_from : (image : List ℕ) (start : ℕ) (xs : List ℕ) (m : ℕ) → Follow image start xs m → Ordered (λ a b. a < b) xs
 rises_from image start [] m chain = tt
 rises_from image start (x ∷ xs) m chain = (
   λ y has.

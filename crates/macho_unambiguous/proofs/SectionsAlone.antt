@@ -8,14 +8,18 @@ use Rattle.macho_rules.proofs.Searches.{any_of, one_of}
 use Rattle.macho_unambiguous.specs.Models.{IsSectionAt, IsLookedFor, HasOneSectionAt}
 use Rattle.macho_unambiguous.specs.Sections.{IsDebug, HasAddress, IsAmbiguous, BreaksSectionAlone}
 
+-- a section that readers look for is not ambiguous
+pub not_ambiguous : (image : List ℕ) → ((place : ℕ) → ¬ BreaksSectionAlone image place) → (s : ℕ × ℕ) → Contains (sections_of image (commands_of image)) s → 0 < section_size image s.1 → ¬ IsDebug image s
+    → ¬ IsAmbiguous image s
+not_ambiguous image none s has some looked ambiguous =
+    none s.1 (any_of (λ section. (s.1 ≡ section.1) × ((0 < section_size image section.1) × (¬ IsDebug image section) × IsAmbiguous image section)) (sections_of image (commands_of image)) s has (refl, (some, looked, ambiguous)))
+
 module _ (image : List ℕ) (none : (place : ℕ) → ¬ BreaksSectionAlone image place) (address : ℕ) (supplied : Any (λ segment. Supplies image segment address) (all_segments image)) where
   abbrev sections : List (ℕ × ℕ)
   sections = sections_of image (commands_of image)
 
-  -- a section that readers look for is not ambiguous
   clear : (s : ℕ × ℕ) → Contains sections s → IsLookedFor image address s → ¬ IsAmbiguous image s
-  clear s has (open_to, at) ambiguous =
-      none s.1 (any_of (λ section. (s.1 ≡ section.1) × ((0 < section_size image section.1) × (¬ IsDebug image section) × IsAmbiguous image section)) sections s has (refl, (omega (arith, at.0, at.1), open_to, ambiguous)))
+  clear s has (looked, at) = not_ambiguous image none s has (omega (arith, at.0, at.1)) looked
 
   mapped : (s : ℕ × ℕ) → Contains sections s → IsLookedFor image address s → 0 < vmsize image s.0
   mapped s has looked = elim (cases_lt 0 (vmsize image s.0)) [

@@ -1,18 +1,14 @@
 -- A byte of the file is in one slice, and in the pages of that slice alone.
-use Rattle.std.proofs.Common.{◌≡◌, ℕ, ◌*◌, ◌/◌, ◌%◌, ◌≤◌, ◌<◌, ◌==◌, List, refl, sym, subst, arith, inl, inr}
-use Rattle.std.proofs.lemmas.Bool.{cases_Bool, cases_eq, cases_order}
+use Rattle.std.proofs.Common.{◌≡◌, ℕ, ◌%◌, ◌≤◌, ◌<◌, List, refl, sym, subst, arith, inl, inr}
+use Rattle.std.proofs.lemmas.Bool.{cases_eq, cases_order}
 use Rattle.macho_fields.specs.Rules.{BreaksFile}
 use Rattle.macho_fields.specs.Universal.{IsUniversal, HasPlace, entry_count, entry_place, entry_slice}
-use Rattle.macho_fields.specs.declared.header.machine.TheConstants as machine
 use Rattle.macho_fields.specs.declared.rule.Rule.TheVariants as rule
 use Rattle.macho_unambiguous.specs.Files.{BreaksFatPage, entry_cputype}
 use Rattle.macho_unambiguous.specs.Models.{IsInPages, IsSliceOfByte, HasOneSliceOfByte}
 use Rattle.macho_unambiguous.specs.Pages.{page_size}
+use Rattle.macho_unambiguous.proofs.Rounding.{floor_even}
 use Rattle.macho_unambiguous.proofs.SlicePages.{image_long}
-
--- a page begins at a multiple of its size
-even_start : (cputype start : ℕ) → start % page_size cputype ≡ 0 → start / page_size cputype * page_size cputype ≡ start
-even_start cputype start = elim (cases_Bool (cputype == machine.CPU_TYPE_X86_64)) [ inl t ↦ rw t (λ even. omega (arith, even)) | inr f ↦ rw f (λ even. omega (arith, even)) ]
 
 module _ (file : List ℕ) (overlap : (place : ℕ) → ¬ BreaksFile file rule.FatOverlap place) (page : (place : ℕ) → ¬ BreaksFatPage file place) (universal : IsUniversal file) where
   abbrev start : ℕ → ℕ
@@ -33,7 +29,7 @@ module _ (file : List ℕ) (overlap : (place : ℕ) → ¬ BreaksFile file rule.
     -- the slice begins at the place or before it
     from_start : start k ≤ place
     from_start = elim (cases_eq (start k % page_size (entry_cputype file k)) 0) [
-      | inl even ↦ (let same = even_start (entry_cputype file k) (start k) even in let low = pages.1 in omega (arith, same, low))
+      | inl even ↦ (let same = floor_even (entry_cputype file k) (start k) even in let low = pages.1 in omega (arith, same, low))
       | inr off ↦ absurd (page (entry_place file k) (universal, (k, less, refl, (pages.0, inl off))))
     ]
 

@@ -59,7 +59,7 @@ HasOtherType bytes cputype = field (header_order bytes) 4 bytes 4 ≢ Some cputy
 
 -- the cputype is one of a processor of 64 bits (mach/machine.h: CPU_ARCH_ABI64)
 abbrev pub is_of_64_bits : ℕ → Bool
-is_of_64_bits cputype = nat_lt 0 (bit_and cputype files.CPU_ARCH_ABI64)
+is_of_64_bits cputype = nat_lt 0 (bit_and cputype machine.CPU_ARCH_ABI64)
 
 -- it is, and the header has 32 bits, or the reverse
 abbrev pub HasOtherWidth : List ℕ → ℕ → Type 0

@@ -5,6 +5,14 @@ pub mod Entry
 pub mod Files
 pub mod Sections
 pub mod SectionAlone
+pub mod Fixups
 pub mod Order
 pub mod Models
+pub mod PageModels
+pub mod HiddenEntries
+pub mod SectionBytes
+pub mod CommandModels
 pub mod Names
+pub mod Rules
+pub mod Unambiguous
+pub mod Verdict

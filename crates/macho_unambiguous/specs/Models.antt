@@ -1,9 +1,9 @@
 -- The answers of readers, question by question, and that all of them agree. A model of a reader is a relation between a
 -- question and an answer. It may have none: a reader that refuses shows no other program.
-use Rattle.std.specs.Prelude.{◌≡◌, ℕ, ◌+◌, ◌*◌, ◌/◌, ◌%◌, ◌≤◌, ◌<◌, ◌==◌, ◌&&◌, ◌⊎◌, ◌↔◌, nat_lt, not, filter, List, length, Any, Contains, Some, IsSomeAnd, bit_and, true}
+use Rattle.std.specs.Prelude.{◌≡◌, ℕ, ◌+◌, ◌*◌, ◌/◌, ◌%◌, ◌≤◌, ◌<◌, ◌==◌, ◌&&◌, ◌||◌, ◌⊎◌, ◌↔◌, nat_lt, not, filter, List, length, Any, Contains, Some, IsSomeAnd, bit_and, true, Bool}
 use Rattle.macho_fields.specs.Field.{number, field}
 use Rattle.macho_fields.specs.Image.{command_cmd, commands_of}
-use Rattle.macho_fields.specs.Segment.{all_segments, base_of, vmaddr, vmsize, initprot, entryoff, shows_start, Supplies}
+use Rattle.macho_fields.specs.Segment.{all_segments, base_of, vmaddr, vmsize, nsects, section_address, initprot, entryoff, shows_start, Supplies}
 use Rattle.macho_fields.specs.Universal.{IsUniversal, IsImage, HasPlace, entry_count, entry_slice}
 use Rattle.macho_fields.specs.declared.bytes.Order.TheVariants.{Big, Little}
 use Rattle.macho_fields.specs.declared.file_type.Kind.TheVariants as kind
@@ -11,13 +11,15 @@ use Rattle.macho_fields.specs.declared.header.fat.TheConstants as fat
 use Rattle.macho_fields.specs.declared.header.loader.TheConstants as loader
 use Rattle.macho_image.specs.Header.{IsKind}
 use Rattle.macho_image.specs.Segment.{sections_of, maxprot, section_name, segment_name}
+use Rattle.macho_strict.specs.Rules.{HoldsHeaders}
 use Rattle.macho_tables.specs.Limits.{loads_library}
 use Rattle.macho_tables.specs.Segments.{IsText, is_writable}
 use Rattle.macho_unambiguous.specs.Commands.{is_single, platform_of}
 use Rattle.macho_unambiguous.specs.Entry.{is_entry, IsFilePlace, SaysEntry, IsDataAt, data_entries}
 use Rattle.macho_unambiguous.specs.Files.{entry_bytes, entry_cputype, entry_cpusubtype, header_order, is_wide, is_judged, is_of_64_bits, pages_end}
+use Rattle.macho_unambiguous.specs.Fixups.{FixupsName}
 use Rattle.macho_unambiguous.specs.Pages.{page_size}
-use Rattle.macho_unambiguous.specs.Order.{IsEager}
+use Rattle.macho_unambiguous.specs.Order.{IsEager, earlier_segments, segment_number, earlier_runs, HasPageZero}
 use Rattle.macho_unambiguous.specs.Sections.{segment_name_of, IsDebug, HasAddress}
 use Rattle.macho_unambiguous.specs.Segments.{HasTail}
 
@@ -137,21 +139,22 @@ IsSegmentOfName image name answer =
 abbrev pub HasOneSegmentOfName : List ℕ → Type 0
 HasOneSegmentOfName image = (name : List ℕ) → Agree (IsSegmentOfName image name)
 
--- Where is the base? In the first segment that has the start of the file (the verifier), in the last (xnu), in the first
--- that is named __TEXT (dyld), or in the last.
+-- Where is the base? In the first segment that has the start of the file (the verifier), in the last (xnu), in one that
+-- has the headers, in the first that is named __TEXT (dyld), or in the last.
 
 abbrev pub IsBaseOf : List ℕ → ℕ → Type 0
 IsBaseOf image answer =
     (base_of image (commands_of image) ≡ Some answer)
     ⊎ ((segment : ℕ) × (answer ≡ vmaddr image segment)
     × (IsLastWith (all_segments image) (λ s. shows_start image s ≡ true) segment
-    ⊎ IsEndWith (all_segments image) (IsText image) segment))
+    ⊎ ((Contains (all_segments image) segment × HoldsHeaders image segment)
+    ⊎ IsEndWith (all_segments image) (IsText image) segment)))
 
 abbrev pub HasOneBase : List ℕ → Type 0
 HasOneBase image = Agree (IsBaseOf image)
 
 -- Which section has a name in a segment with a name? The first, or the last, by the two names of the section (LLVM, Go),
--- or by its own and the segment's (getsectbyname).
+-- or by its own and the segment's (getsectbyname); or the first whose two fields of 16 bytes are the names and zeros.
 
 abbrev pub IsFirstSectionWith : List ℕ → (ℕ × ℕ → Type 0) → ℕ → Type 0
 IsFirstSectionWith image P place =
@@ -171,12 +174,17 @@ abbrev pub HasNameInSegment : List ℕ → List ℕ → List ℕ → ℕ × ℕ 
 HasNameInSegment image segment name section =
     (section_name image section.1 ≡ name) × (segment_name image section.0 ≡ segment)
 
+abbrev pub HasPaddedNames : List ℕ → List ℕ → List ℕ → ℕ × ℕ → Type 0
+HasPaddedNames image segment name section =
+    HasNames image segment name section × (¬ HasTail image section.1) × ¬ HasTail image (section.1 + 16)
+
 abbrev pub IsSectionOfNames : List ℕ → List ℕ → List ℕ → ℕ → Type 0
 IsSectionOfNames image segment name answer =
     IsFirstSectionWith image (HasNames image segment name) answer
     ⊎ (IsLastSectionWith image (HasNames image segment name) answer
     ⊎ (IsFirstSectionWith image (HasNameInSegment image segment name) answer
-    ⊎ IsLastSectionWith image (HasNameInSegment image segment name) answer))
+    ⊎ (IsLastSectionWith image (HasNameInSegment image segment name) answer
+    ⊎ IsFirstSectionWith image (HasPaddedNames image segment name) answer)))
 
 abbrev pub HasOneSectionOfNames : List ℕ → Type 0
 HasOneSectionOfNames image = (segment name : List ℕ) → Agree (IsSectionOfNames image segment name)
@@ -214,21 +222,70 @@ HasOnePlatform image =
     (platform : ℕ)
     → Agree (IsEndWith (commands_of image) (λ command. platform_of image command ≡ Some platform))
 
--- Which number has a segment that can be written, by which fixups name it? How many segments are before it (the
--- verifier), or how many mapped ones (dyld, before chained fixups).
+-- Which number has a segment that can be written? How many segments are before it (the verifier), or how many mapped
+-- ones (dyld, before chained fixups).
 
-abbrev pub earlier_segments : List ℕ → ℕ → List ℕ
-earlier_segments image segment = filter (λ earlier. nat_lt earlier segment) (all_segments image)
+abbrev pub earlier_mapped : List ℕ → ℕ → List ℕ
+earlier_mapped image segment = filter (λ earlier. nat_lt 0 (vmsize image earlier)) (earlier_segments image segment)
 
 abbrev pub IsNumberOfSegment : List ℕ → ℕ → ℕ → Type 0
 IsNumberOfSegment image segment answer =
-    (answer ≡ length (earlier_segments image segment))
-    ⊎ (answer ≡ length (filter (λ earlier. nat_lt 0 (vmsize image earlier)) (earlier_segments image segment)))
+    (answer ≡ segment_number image segment) ⊎ (answer ≡ length (earlier_mapped image segment))
 
 abbrev pub HasOneNumberOfSegment : List ℕ → Type 0
 HasOneNumberOfSegment image =
     (segment : ℕ) → Contains (all_segments image) segment → is_writable image segment ≡ true
     → Agree (IsNumberOfSegment image segment)
+
+-- Which segment has a number by which fixups name it? The one with so many before it (the verifier), the mapped one with
+-- so many mapped ones before it (dyld, before chained fixups), or the one that begins a run of sections, with so many
+-- runs before it, where a __PAGEZERO is one more (LLVM).
+
+abbrev pub IsSegmentByAll : List ℕ → ℕ → ℕ → Type 0
+IsSegmentByAll image number answer = Contains (all_segments image) answer × (number ≡ segment_number image answer)
+
+abbrev pub IsSegmentByMapped : List ℕ → ℕ → ℕ → Type 0
+IsSegmentByMapped image number answer =
+    Contains (all_segments image) answer × (0 < vmsize image answer)
+    × (number ≡ length (earlier_mapped image answer))
+
+-- it has sections, and a name other than the one before: before the first it is the empty one
+abbrev pub begins_run : List ℕ → ℕ → Bool
+begins_run image segment =
+    nat_lt 0 (nsects image segment)
+    && (nat_lt 0 (length (segment_name image segment)) || nat_lt 0 (earlier_runs image segment))
+
+abbrev pub runs_before : List ℕ → ℕ → ℕ
+runs_before image segment = length (filter (begins_run image) (earlier_segments image segment))
+
+abbrev pub IsSegmentBySections : List ℕ → ℕ → ℕ → Type 0
+IsSegmentBySections image number answer =
+    Contains (all_segments image) answer × (begins_run image answer ≡ true)
+    × ((HasPageZero image × (number ≡ runs_before image answer + 1))
+    ⊎ ((¬ HasPageZero image) × (number ≡ runs_before image answer)))
+
+abbrev pub IsSegmentOfNumber : List ℕ → ℕ → ℕ → Type 0
+IsSegmentOfNumber image number answer =
+    IsSegmentByAll image number answer
+    ⊎ (IsSegmentByMapped image number answer ⊎ IsSegmentBySections image number answer)
+
+-- where the verifier's segment can be written, as a fixup asks
+abbrev pub HasOneSegmentOfNumber : List ℕ → Type 0
+HasOneSegmentOfNumber image =
+    (number segment : ℕ) → FixupsName image number → IsSegmentByAll image number segment
+    → is_writable image segment ≡ true → Agree (IsSegmentOfNumber image number)
+
+-- Where does a segment begin that fixups name? At its vmaddr (the verifier, dyld), or with its first section (LLVM).
+
+abbrev pub IsStartOfSegment : List ℕ → ℕ → ℕ → Type 0
+IsStartOfSegment image segment answer =
+    (answer ≡ vmaddr image segment)
+    ⊎ (answer ≡ section_address image (segment + loader.SEGMENT_COMMAND_64_SIZE))
+
+abbrev pub HasOneStartOfSegment : List ℕ → Type 0
+HasOneStartOfSegment image =
+    (segment : ℕ) → Contains (all_segments image) segment → FixupsName image (segment_number image segment)
+    → Agree (IsStartOfSegment image segment)
 
 -- Which ordinal has a library that is loaded at once? One more than there are libraries before it (the verifier, LLVM),
 -- or libraries that are not loaded late (dyld).

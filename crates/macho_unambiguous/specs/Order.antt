@@ -1,11 +1,13 @@
 -- Where a command shifts the numbers by which fixups name segments and libraries. (mach-o/loader.h:
 -- segment_command_64, dylib_command)
-use Rattle.std.specs.Prelude.{◌≡◌, ℕ, ◌<◌, ◌⊎◌, List, Any, Contains, Option, IsSomeAnd, true}
+use Rattle.std.specs.Prelude.{◌≡◌, ◌≢◌, ℕ, ◌+◌, ◌<◌, ◌⊎◌, nat_lt, List, length, filter, Any, Contains, Option, IsSomeAnd, true, codes}
 use Rattle.macho_fields.specs.Image.{command_cmd, commands_of}
-use Rattle.macho_fields.specs.Segment.{vmsize, all_segments}
+use Rattle.macho_fields.specs.Segment.{vmaddr, vmsize, nsects, all_segments, section_address}
 use Rattle.macho_fields.specs.declared.header.loader.TheConstants as loader
+use Rattle.macho_image.specs.Segment.{segment_name}
 use Rattle.macho_tables.specs.Limits.{loads_library}
 use Rattle.macho_tables.specs.Segments.{is_writable}
+use Rattle.macho_unambiguous.specs.Fixups.{FixupsName}
 
 -- the command is a segment that is not mapped, and a later one can be written
 abbrev pub ShiftsSegment : List ℕ → ℕ → Type 0
@@ -41,7 +43,61 @@ unfoldable pub ShiftsBefore : Option ℕ → Option ℕ → List ℕ → ℕ →
 ShiftsBefore writable eager image command =
     IsUnmappedBefore writable image command ⊎ IsLazyBefore eager image command
 
--- The rule number-shift, at the place of a command. Its part on the segments that fixups name, and on the sections at
--- their starts, is not stated here.
+-- Segments by their sections: some readers pass over the segment commands, and take the sections of one segment for the
+-- segment, which begins where the first of them does (LLVM)
+
+-- how many segments are before it, which is its number in fixups
+abbrev pub earlier_segments : List ℕ → ℕ → List ℕ
+earlier_segments image segment = filter (λ earlier. nat_lt earlier segment) (all_segments image)
+
+abbrev pub segment_number : List ℕ → ℕ → ℕ
+segment_number image segment = length (earlier_segments image segment)
+
+-- how many of them have sections
+abbrev pub earlier_runs : List ℕ → ℕ → ℕ
+earlier_runs image segment =
+    length (filter (λ earlier. nat_lt 0 (nsects image earlier)) (earlier_segments image segment))
+
+-- A segment __PAGEZERO, wherever it is, is counted before them
+abbrev pub IsPageZero : List ℕ → ℕ → Type 0
+IsPageZero image segment = segment_name image segment ≡ codes "__PAGEZERO"
+
+abbrev pub HasPageZero : List ℕ → Type 0
+HasPageZero image = Any (IsPageZero image) (all_segments image)
+
+-- the number of a segment, by the segments that have sections
+abbrev pub IsRunNumber : List ℕ → ℕ → ℕ → Type 0
+IsRunNumber image segment number =
+    (HasPageZero image × (number ≡ earlier_runs image segment + 1))
+    ⊎ ((¬ HasPageZero image) × (number ≡ earlier_runs image segment))
+
+abbrev pub HasOtherNumber : List ℕ → ℕ → Type 0
+HasOtherNumber image segment =
+    (number : ℕ) × IsRunNumber image segment number × (segment_number image segment ≢ number)
+
+-- it has no section, or its first one does not begin at its vmaddr
+abbrev pub LacksStart : List ℕ → ℕ → Type 0
+LacksStart image segment =
+    (nsects image segment ≡ 0)
+    ⊎ (section_address image (segment + loader.SEGMENT_COMMAND_64_SIZE) ≢ vmaddr image segment)
+
+-- fixups name the segment, and by its sections it has another number or start, or none
+abbrev pub ShiftsFixups : List ℕ → ℕ → Type 0
+ShiftsFixups image segment =
+    FixupsName image (segment_number image segment)
+    × (HasOtherNumber image segment ⊎ LacksStart image segment)
+
+-- The same, where these are its two numbers
+abbrev pub DiffersBy : ℕ → ℕ → List ℕ → ℕ → Type 0
+DiffersBy number run image segment = (number ≢ run) ⊎ LacksStart image segment
+
+-- The rule number-shift, at the place of a command
+
+abbrev pub ShiftsAt : List ℕ → ℕ → Type 0
+ShiftsAt image place = Contains (commands_of image) place × ShiftsNumber image place
+
+abbrev pub ShiftsFixupsAt : List ℕ → ℕ → Type 0
+ShiftsFixupsAt image place = Contains (all_segments image) place × ShiftsFixups image place
+
 abbrev pub BreaksNumberShift : List ℕ → ℕ → Type 0
-BreaksNumberShift image place = Contains (commands_of image) place × ShiftsNumber image place
+BreaksNumberShift image place = ShiftsAt image place ⊎ ShiftsFixupsAt image place

@@ -9,7 +9,6 @@ use Rattle.macho_fields.specs.declared.header.loader.TheConstants as loader
 use Rattle.macho_image.specs.Segment.{sections_of, section_name, short_name}
 use Rattle.macho_spans.specs.Span.{Covers}
 use Rattle.macho_unambiguous.specs.Segments.{HasTail}
-use Rattle.macho_unambiguous.specs.declared.sections.TheConstants as sections
 
 -- Names: sectname, of 16 bytes at 0, and segname, of 16 bytes at 16
 
@@ -62,7 +61,7 @@ HasAddress image section address =
 abbrev pub IsDebug : List ℕ → ℕ × ℕ → Type 0
 IsDebug image section =
     (vmsize image section.0 ≡ 0)
-    × (bit_and (section_flags image section.1) sections.S_ATTR_DEBUG ≢ 0)
+    × (bit_and (section_flags image section.1) loader.S_ATTR_DEBUG ≢ 0)
 
 -- an earlier section that readers look for is at an address of this one
 abbrev pub SharesAddress : List ℕ → ℕ × ℕ → Type 0

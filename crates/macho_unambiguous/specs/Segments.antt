@@ -1,6 +1,6 @@
 -- Where a segment breaks a rule, so that two readers see other bytes, another protection or another segment.
 -- (mach-o/loader.h: segment_command_64; mach/vm_prot.h)
-use Rattle.std.specs.Prelude.{◌≡◌, ◌≢◌, ℕ, ◌+◌, ◌%◌, ◌<◌, ◌⊎◌, List, length, find, Any, Contains, Option, Some, bit_and}
+use Rattle.std.specs.Prelude.{◌≡◌, ◌≢◌, ℕ, ◌+◌, ◌%◌, ◌<◌, ◌⊎◌, List, [], length, find, Any, Contains, Option, Some, bit_and}
 use Rattle.macho_fields.specs.Image.{cpu_type}
 use Rattle.macho_fields.specs.NonZero.{HasNonZero}
 use Rattle.macho_fields.specs.Segment.{all_segments, vmaddr, vmsize, fileoff, filesize, initprot, shows_start}
@@ -73,13 +73,19 @@ IsTextBut base image segment =
 abbrev pub IsOtherText : List ℕ → ℕ → Type 0
 IsOtherText image segment = IsTextBut (find (shows_start image) (all_segments image)) image segment
 
+-- its name has no letters
+abbrev pub IsNameless : List ℕ → ℕ → Type 0
+IsNameless image segment = segment_name image segment ≡ []
+
 -- what two readers see of the name of the segment by itself
 abbrev pub IsMisnamedBut : Option ℕ → List ℕ → ℕ → Type 0
-IsMisnamedBut base image segment = HasTail image (segment + 8) ⊎ IsTextBut base image segment
+IsMisnamedBut base image segment =
+    HasTail image (segment + 8) ⊎ (IsTextBut base image segment ⊎ IsNameless image segment)
 
 abbrev pub IsMisnamed : List ℕ → ℕ → Type 0
 IsMisnamed image segment =
-    HasTail image (segment + 8) ⊎ (HasEarlierName image segment ⊎ IsOtherText image segment)
+    HasTail image (segment + 8)
+    ⊎ (HasEarlierName image segment ⊎ (IsOtherText image segment ⊎ IsNameless image segment))
 
 -- the rule segment-name, at the place of a segment
 abbrev pub BreaksSegmentName : List ℕ → ℕ → Type 0

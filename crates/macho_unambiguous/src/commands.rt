@@ -7,14 +7,12 @@ ghost use Rattle.macho_image.specs.Opened.{IsCommandOf};
 ghost use Rattle.macho_unambiguous.specs.Commands.{cryptid as cryptid_of, HasEncryptedRange, IsProtectedSegment, HasEncrypted, BreaksBytesEncrypted, is_known as is_known_of, BreaksCommandKnown};
 
 use macho_commands::{content_of, is_thread};
+use macho_fields::header::loader::encryption_info_command_64::CRYPTID;
 use macho_fields::header::loader::{LC_ENCRYPTION_INFO_64, LC_SEGMENT_64};
 use macho_fields::{Order, structure_of};
 use macho_image::{Command, Image};
 use macho_tables::place::place_of;
 use macho_tables::segment::is_protected;
-
-/// The offset of `cryptid` in an `encryption_info_command_64`.
-const CRYPTID: u64 = 16;
 
 /// The place of the first command that has encrypted bytes: a range that is encrypted, or a segment that a kernel
 /// decrypts.

@@ -58,8 +58,8 @@ fn has_bad_entry(image: &Image, command: &Command, entries: Bytes) -> bool
     is_entry(command.cmd) && is_bad_entry(image, command, entries)
 }
 
-// Whether a command with this `cmd` says where a program begins.
-fn is_entry(cmd: u32) -> bool
+/// Whether a command with this `cmd` says where a program begins.
+pub fn is_entry(cmd: u32) -> bool
     ensures { result ≡ is_entry_of cmd }
 {
     cmd == LC_MAIN || is_thread(cmd)

@@ -1,29 +1,25 @@
 //! The rules of a universal file: which slice a reader runs. (`mach-o/fat.h`)
 
-ghost use Rattle.std.specs.Prelude.{◌≡◌, ◌+◌, ◌≤◌, ◌<◌, ◌↔◌, ◌≢◌, IsTrue, length, MatchOption, Some};
+ghost use Rattle.std.specs.Prelude.{◌≡◌, ◌+◌, ◌≤◌, ◌<◌, ◌↔◌, ◌≢◌, IsTrue, length, Some};
 ghost use Rattle.macho_fields.specs.Bytes.{bytes_of};
 ghost use Rattle.macho_fields.specs.Field.{field};
 ghost use Rattle.macho_fields.specs.FirstPlace.{IsLeastPlace};
-ghost use Rattle.macho_fields.specs.Universal.{IsUniversal, IsImage, entry_place, entry_size as entry_size_of, entry_slice, slice_bytes, slices_of};
+ghost use Rattle.macho_fields.specs.Universal.{IsUniversal, IsImage, entry_place, entry_slice, slice_bytes, slices_of};
 ghost use Rattle.macho_fields.specs.declared.bytes.Order.TheVariants.{Little};
 ghost use Rattle.macho_unambiguous.specs.Files.{LooksLikeClass, BreaksFatCount, has_magic as has_magic_of, is_wide as is_wide_of, header_order as header_order_of, HasOtherType, is_of_64_bits as is_of_64_bits_of, HasOtherWidth, HasOtherSubtype, is_judged as is_judged_of, IsUnjudged, HasOtherProcessor, IsOtherwiseRead, HasOtherHeader, IsOtherEntry, BreaksFatHeader};
 
 use macho_fields::header::fat::fat_header::NFAT_ARCH;
-use macho_fields::header::fat::{
-    FAT_ARCH_64_SIZE, FAT_ARCH_SIZE, FAT_HEADER_SIZE, FAT_MAGIC, FAT_MAGIC_64, fat_arch,
-};
+use macho_fields::header::fat::{FAT_HEADER_SIZE, FAT_MAGIC, fat_arch};
 use macho_fields::header::loader::mach_header_64::{CPUSUBTYPE, CPUTYPE};
 use macho_fields::header::loader::{MH_MAGIC, MH_MAGIC_64};
-use macho_fields::header::machine::{CPU_TYPE_ARM64, CPU_TYPE_X86_64};
+use macho_fields::header::machine::{CPU_ARCH_ABI64, CPU_TYPE_ARM64, CPU_TYPE_X86_64};
 use macho_fields::{Bytes, Order};
 use macho_rules::Verified;
+use macho_strict::entry_size;
 
 /// From how many entries on a reader takes a file with `FAT_MAGIC` for a Java class. `file(1)` takes a file for a class
 /// if it has more than 30 entries: the version of a class is in the place of their number.
 pub const LEAST_CLASS_COUNT: u64 = 31;
-
-/// The bit of the `cputype` of a processor of 64 bits. (`mach/machine.h`)
-pub const CPU_ARCH_ABI64: u32 = 0x100_0000;
 
 /// The place of `nfat_arch`, if a reader takes the file for a Java class.
 pub fn fat_count(file: Bytes) -> Option<u64>
@@ -58,18 +54,6 @@ pub fn fat_header(verified: &Verified) -> Option<u64>
         }
     }
     None
-}
-
-// The size in bytes of an entry of the table, or `None` if the file is not universal.
-pub(crate) fn entry_size(file: Bytes) -> Option<u64>
-    ensures { MatchOption result (¬ IsUniversal (bytes_of file.entry))
-        (λ size. IsUniversal (bytes_of file.entry) × (size ≡ entry_size_of (bytes_of file.entry))) }
-{
-    match file.u32_at(Order::Big, 0)? {
-        FAT_MAGIC => Some(FAT_ARCH_SIZE),
-        FAT_MAGIC_64 => Some(FAT_ARCH_64_SIZE),
-        _ => None,
-    }
 }
 
 // Whether the entry with this index, which is at `place`, says something else than its slice.
@@ -159,15 +143,15 @@ fn is_unjudged(bytes: Bytes, cputype: u32) -> bool
     is_judged(cputype) && !is_read(bytes)
 }
 
-// Whether slices for the processor are judged.
-fn is_judged(cputype: u32) -> bool
+/// Whether slices for the processor are judged.
+pub fn is_judged(cputype: u32) -> bool
     ensures { result ≡ is_judged_of cputype }
 {
     cputype == CPU_TYPE_X86_64 || cputype == CPU_TYPE_ARM64
 }
 
-// Whether the processor has 64 bits.
-fn is_of_64_bits(cputype: u32) -> bool
+/// Whether the processor has 64 bits.
+pub fn is_of_64_bits(cputype: u32) -> bool
     ensures { result ≡ is_of_64_bits_of cputype }
 {
     cputype & CPU_ARCH_ABI64 != 0

@@ -11,7 +11,7 @@ use macho_fields::header::loader::SHORT_NAME_SIZE;
 use macho_fields::{Bytes, Span};
 use macho_tables::place::lesser;
 
-/// The most items whose names are compared in pairs, which takes no memory.
+/// The most items whose names or addresses are compared in pairs, which takes no memory.
 pub const FEW_NAMES: usize = 64;
 
 // The two names of an item, and where it begins. An item with one name has an empty one besides.

@@ -1,33 +1,38 @@
 //! The rule of what readers find at the addresses of sections. (`mach-o/loader.h`: `section_64`)
 
-ghost use Rattle.std.specs.Prelude.{◌≡◌, ◌+◌, ◌≤◌, ◌<◌, ◌↔◌, ℕ, List, IsTrue, IfOk, IfSome, IsPermutation, map, min, None};
+ghost use Rattle.std.specs.Prelude.{◌≡◌, ◌+◌, ◌≤◌, ◌<◌, ◌↔◌, ℕ, List, IsTrue, Any, IfOk, OnErr, IfSome, IsPermutation, length, map, min, None};
 ghost use Rattle.std.specs.List.Sorted.{IsNonDecreasingBy};
 ghost use Rattle.macho_fields.specs.FirstPlace.{IsLeastPlace};
 ghost use Rattle.macho_fields.specs.Image.{commands_of};
 ghost use Rattle.macho_fields.specs.Layers.{NothingBreaks};
 ghost use Rattle.macho_fields.specs.NonZero.{HasNonZero};
 ghost use Rattle.macho_fields.specs.Rules.{BreaksImage as Breaks};
-ghost use Rattle.macho_fields.specs.Segment.{vmaddr as vmaddr_of, fileoff as fileoff_of, vmsize as vmsize_of, filesize as filesize_of, section_address, section_size};
+ghost use Rattle.macho_fields.specs.Segment.{vmaddr as vmaddr_of, fileoff as fileoff_of, vmsize as vmsize_of, filesize as filesize_of, section_address, section_size, Supplies};
 ghost use Rattle.macho_image.specs.Segment.{sections_of};
 ghost use Rattle.macho_rules.specs.Mapped.{mapped_memory};
 ghost use Rattle.macho_spans.specs.Overlap.{sorted_spans};
+ghost use Rattle.macho_spans.specs.Span.{Holds, Shares};
 ghost use Rattle.macho_unambiguous.specs.SectionAlone.{mapped_part as mapped_part_of, SharesMapped, MeetsSegment, IsOverMapped, TellsOverMapped, IsHiding};
 ghost use Rattle.macho_unambiguous.specs.Sections.{AtSection, IsDebug, HidesByte, BreaksSectionAlone};
 
-use crate::sections::{S_ATTR_DEBUG, place_of_section};
+use crate::names::FEW_NAMES;
+use crate::sections::has_few_sections;
 use macho_fields::Span;
+use macho_fields::header::loader::S_ATTR_DEBUG;
 use macho_image::{Image, Section, Segment};
 use macho_spans::{SpanList, SpansByStart};
-use macho_tables::place::lesser;
+use macho_tables::place::{lesser, place_of_section};
 use std::alloc::{AllocError, Global};
 
 /// The place of the first section that readers look for at addresses at which they find something else: an earlier
 /// section, a byte of the file where this one shows a zero, or a segment where its own is not mapped. For n sections
-/// and segments it takes time in the order of n log n, and memory for each. It also reads the bytes under zero-fill
-/// sections, once for each segment that has them.
+/// and segments it takes time in the order of n log n, and memory for each only if there are more than [`FEW_NAMES`]
+/// sections. It also reads the bytes under zero-fill sections, once for each segment that has them.
 pub fn section_alone(alloc: Global, image: &Image) -> Result<Option<u64>, AllocError>
     requires { NothingBreaks (Breaks image.now None) }
     ensures least { IfOk result (IsLeastPlace (BreaksSectionAlone image.now)) }
+    ensures memory { OnErr result
+        (FEW_NAMES < length (sections_of image.now (commands_of image.now))) }
 {
     let shared = first_shared(alloc, image)?;
     let over = first_over(alloc, image)?;
@@ -40,13 +45,51 @@ pub fn section_alone(alloc: Global, image: &Image) -> Result<Option<u64>, AllocE
 // The place of the first section of a mapped segment that shares an address with an earlier one.
 fn first_shared(alloc: Global, image: &Image) -> Result<Option<u64>, AllocError>
     requires { NothingBreaks (Breaks image.now None) }
-    ensures { IfOk result (IsLeastPlace (AtSection image.now (SharesMapped image.now))) }
+    ensures least { IfOk result (IsLeastPlace (AtSection image.now (SharesMapped image.now))) }
+    ensures memory { OnErr result
+        (FEW_NAMES < length (sections_of image.now (commands_of image.now))) }
 {
+    if has_few_sections(image) {
+        return Ok(first_sharing(image));
+    }
     let parts = mapped_parts(alloc, image)?;
     let Some(index) = parts.least_overlap() else {
         return Ok(None);
     };
     Ok(place_of_section(image.sections().nth(index as usize)))
+}
+
+// The place of the first section of a mapped segment that shares an address with an earlier one. It compares all pairs.
+fn first_sharing(image: &Image) -> Option<u64>
+    ensures { IsLeastPlace (AtSection image.now (SharesMapped image.now)) result }
+{
+    place_of_section(
+        image
+            .sections()
+            .find(|section| shares_earlier(image, section)),
+    )
+}
+
+// Whether the section and one of the image at a lesser place share an address, and the segments of both are mapped.
+fn shares_earlier(image: &Image, section: &Section) -> bool
+    ensures { IsTrue result ↔ Any (λ earlier. (earlier.1 < section.now.place)
+        × Shares (mapped_part_of image.now earlier)
+        (mapped_part_of section.now.image (section.now.segment, section.now.place)))
+        (sections_of image.now (commands_of image.now)) }
+{
+    let part = mapped_part(section);
+    let place = section.place();
+    image
+        .sections()
+        .any(|earlier| shares_part(&earlier, place, &part))
+}
+
+// Whether the section is at a lesser place, its segment is mapped, and it has an address of the span.
+fn shares_part(earlier: &Section, place: u64, part: &Span) -> bool
+    ensures { IsTrue result ↔ (earlier.now.place < place)
+        × Shares (mapped_part_of earlier.now.image (earlier.now.segment, earlier.now.place)) part.now }
+{
+    earlier.place() < place && mapped_part(earlier).shares(part)
 }
 
 // The addresses of each section of a mapped segment, and an empty span for each other section.
@@ -75,14 +118,52 @@ fn mapped_part(section: &Section) -> Span
 // The place of the first section of an unmapped segment that is at an address of a segment.
 fn first_over(alloc: Global, image: &Image) -> Result<Option<u64>, AllocError>
     requires { NothingBreaks (Breaks image.now None) }
-    ensures { IfOk result (IsLeastPlace (AtSection image.now (IsOverMapped image.now image.now))) }
+    ensures least { IfOk result (IsLeastPlace (AtSection image.now (IsOverMapped image.now image.now))) }
+    ensures memory { OnErr result
+        (FEW_NAMES < length (sections_of image.now (commands_of image.now))) }
 {
+    if has_few_sections(image) {
+        return Ok(first_over_any(image));
+    }
     let segments = mapped_memory(alloc, image)?.sorted();
     Ok(place_of_section(
         image
             .sections()
             .find(|section| is_over_mapped(section, &segments)),
     ))
+}
+
+// The place of the first section of an unmapped segment that is at an address of a segment. It compares all pairs.
+fn first_over_any(image: &Image) -> Option<u64>
+    ensures { IsLeastPlace (AtSection image.now (IsOverMapped image.now image.now)) result }
+{
+    place_of_section(image.sections().find(|section| is_over_any(image, section)))
+}
+
+// Whether the segment of the section is not mapped, readers look for the section, and it is at an address of a segment of
+// the image.
+fn is_over_any(image: &Image, section: &Section) -> bool
+    ensures { IsTrue result
+        ↔ IsOverMapped image.now section.now.image (section.now.segment, section.now.place) }
+{
+    is_unmapped(section) && meets_any(image, &section.memory())
+}
+
+// Whether a segment of the image has an address of the span.
+fn meets_any(image: &Image, span: &Span) -> bool
+    ensures { IsTrue result ↔ MeetsSegment image.now span.now }
+{
+    image
+        .segments()
+        .any(|segment| supplies_part(&segment, span))
+}
+
+// Whether the segment has an address of the span.
+fn supplies_part(segment: &Segment, span: &Span) -> bool
+    ensures { IsTrue result ↔ (address : ℕ) × Holds span.now address
+        × Supplies segment.now.image segment.now.place address }
+{
+    span.shares(&segment.memory())
 }
 
 // The addresses of each mapped segment.
@@ -115,8 +196,8 @@ fn is_unmapped(section: &Section) -> bool
     section.segment().vmsize() == 0 && section.size() > 0 && !is_debug(section)
 }
 
-// Whether no reader looks for the section at an address.
-fn is_debug(section: &Section) -> bool
+/// Whether no reader looks for the section at an address.
+pub fn is_debug(section: &Section) -> bool
     ensures { IsTrue result ↔ IsDebug section.now.image (section.now.segment, section.now.place) }
 {
     section.segment().vmsize() == 0 && section.flags() & S_ATTR_DEBUG != 0

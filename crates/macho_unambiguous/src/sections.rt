@@ -1,7 +1,6 @@
 //! The rules of sections: what readers see of their names. (`mach-o/loader.h`: `section_64`)
 
 ghost use Rattle.std.specs.Prelude.{◌≡◌, ◌+◌, ◌≤◌, ◌<◌, ◌↔◌, IsTrue, IfOk, OnErr, map, length, Any};
-ghost use Rattle.std.specs.Option.{option_map};
 ghost use Rattle.macho_fields.specs.FirstPlace.{IsLeastPlace};
 ghost use Rattle.macho_fields.specs.Image.{commands_of};
 ghost use Rattle.macho_image.specs.Segment.{sections_of, section_name as section_name_of};
@@ -10,16 +9,12 @@ ghost use Rattle.macho_unambiguous.specs.Sections.{segment_name_of, LieInside, H
 
 use crate::names::{FEW_NAMES, Named, has_tail, least_repeated};
 use macho_fields::Span;
-use macho_fields::header::loader::{SECTION_64_SIZE, SHORT_NAME_SIZE, segment_command_64};
+use macho_fields::header::loader::{
+    SECTION_64_SIZE, SHORT_NAME_SIZE, section_64, segment_command_64,
+};
 use macho_image::{Image, Section};
-use macho_tables::place::lesser;
+use macho_tables::place::{lesser, place_of_section};
 use std::alloc::{AllocError, Global};
-
-/// The attribute of a section that only debuggers read. (`mach-o/loader.h`: `section_64`)
-pub const S_ATTR_DEBUG: u64 = 0x200_0000;
-
-/// The offset of `segname` in a `section_64`.
-const SEGNAME: u64 = 16;
 
 /// The place of the first section with a byte past its name, with another `segname` than its segment, or with both
 /// names of an earlier section. For n sections it takes time in the order of n log n, and memory only if there are more
@@ -41,16 +36,6 @@ fn first_misnamed(image: &Image) -> Option<u64>
     place_of_section(image.sections().find(|section| is_misnamed(section)))
 }
 
-// The place of a section, if there is one.
-pub(crate) fn place_of_section(section: Option<Section>) -> Option<u64>
-    ensures { result ≡ option_map (λ found. found.place) section.entry }
-{
-    match section {
-        Some(found) => Some(found.place()),
-        None => None,
-    }
-}
-
 // Whether the names of the section are seen in two ways.
 #[tactic(auto, unfolding(crate::specs::Sections::IsMisnamed))]
 fn is_misnamed(section: &Section) -> bool
@@ -70,7 +55,7 @@ fn has_other_segment(section: &Section) -> bool
     let segment = section.segment();
     let image = segment.image();
     let own = Span {
-        start: section.place() + SEGNAME,
+        start: section.place() + section_64::SEGNAME,
         len: SHORT_NAME_SIZE,
     };
     let other = Span {
@@ -80,14 +65,14 @@ fn has_other_segment(section: &Section) -> bool
     image.read_part(own) != image.read_part(other)
 }
 
-// The name of the segment that the section says it is in.
-fn segment_name<'a>(section: &Section<'a>) -> &'a [u8]
+/// The name of the segment that the section says it is in.
+pub fn segment_name<'a>(section: &Section<'a>) -> &'a [u8]
     requires { section.now.place + SECTION_64_SIZE ≤ length section.now.image }
     ensures { result.now ≡ segment_name_of section.now.image section.now.place }
 {
     let image = section.segment().image();
     let whole = Span {
-        start: section.place() + SEGNAME,
+        start: section.place() + section_64::SEGNAME,
         len: SHORT_NAME_SIZE,
     };
     match image.string_in(whole) {
@@ -110,7 +95,7 @@ fn repeated_names(alloc: Global, image: &Image) -> Result<Option<u64>, AllocErro
 }
 
 // Whether there are no more sections than are compared in pairs.
-fn has_few_sections(image: &Image) -> bool
+pub(crate) fn has_few_sections(image: &Image) -> bool
     ensures { IsTrue result
         ↔ (length (sections_of image.now (commands_of image.now)) ≤ FEW_NAMES) }
 {

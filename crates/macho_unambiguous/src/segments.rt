@@ -2,7 +2,6 @@
 //! (`mach-o/loader.h`: `segment_command_64`)
 
 ghost use Rattle.std.specs.Prelude.{◌≡◌, ◌+◌, ◌≤◌, ◌<◌, ◌↔◌, [], IsTrue, IfOk, OnErr, map, length, Any, Contains, find};
-ghost use Rattle.std.specs.Option.{option_map};
 ghost use Rattle.macho_fields.specs.FirstPlace.{IsLeastPlace};
 ghost use Rattle.macho_fields.specs.Segment.{all_segments, shows_start};
 ghost use Rattle.macho_image.specs.Segment.{segment_name as segment_name_of};
@@ -16,7 +15,7 @@ use macho_fields::header::loader::SEGMENT_COMMAND_64_SIZE;
 use macho_fields::header::loader::segment_command_64::SEGNAME;
 use macho_fields::header::vm_prot::{VM_PROT_EXECUTE, VM_PROT_READ, VM_PROT_WRITE};
 use macho_image::{Image, Segment};
-use macho_tables::place::lesser;
+use macho_tables::place::{lesser, place_of_segment};
 use macho_tables::segment::is_text;
 use std::alloc::{AllocError, Global};
 
@@ -39,8 +38,8 @@ pub fn segment_protection(image: &Image) -> Option<u64>
     place_of_segment(image.segments().find(|segment| is_less_allowed(segment)))
 }
 
-/// The place of the first segment with a byte past its name, with the name of an earlier segment, or with the name
-/// `__TEXT` and without the base, or the reverse. For n segments it takes time in the order of n log n, and memory only
+/// The place of the first segment with a byte past its name, with the name of an earlier segment, without a name, or with
+/// the name `__TEXT` and without the base, or the reverse. For n segments it takes time in the order of n log n, and memory only
 /// if there are more than [`FEW_NAMES`].
 pub fn segment_name(alloc: Global, image: &Image) -> Result<Option<u64>, AllocError>
     ensures least { IfOk result (IsLeastPlace (BreaksSegmentName image.now)) }
@@ -74,6 +73,7 @@ fn is_misnamed(segment: &Segment, base: Option<u64>) -> bool
 {
     has_tail(segment.image(), segment.place() + SEGNAME, segment.name())
         || is_text_but(segment, base)
+        || segment.name().is_empty()
 }
 
 // Whether the segment is named `__TEXT` and is not at `base`, or the reverse.
@@ -139,16 +139,6 @@ fn segment_names<'a>(alloc: Global, image: &Image<'a>) -> Result<Vec<Named<'a>>,
         })?;
     }
     Ok(names)
-}
-
-// The place of a segment, if there is one.
-fn place_of_segment(segment: Option<Segment>) -> Option<u64>
-    ensures { result ≡ option_map (λ found. found.place) segment.entry }
-{
-    match segment {
-        Some(found) => Some(found.place()),
-        None => None,
-    }
 }
 
 // Whether the segment does not begin with a page of an image with this `cputype`.

@@ -9,12 +9,13 @@ ghost use Rattle.macho_strict.specs.Verdict.{slice_spans};
 ghost use Rattle.macho_unambiguous.specs.Files.{BeginsWithin, IsOffPages, BreaksFatPage};
 ghost use Rattle.macho_unambiguous.specs.Pages.{page_size as page_size_of, page_end};
 
-use crate::files::{bytes_of_slice, entry_size, is_read};
+use crate::files::{bytes_of_slice, is_read};
 use crate::pages::page_size;
 use macho_fields::header::fat::{FAT_HEADER_SIZE, fat_arch};
 use macho_fields::{Order, Span};
 use macho_rules::Verified;
 use macho_spans::{SpanList, SpansByStart};
+use macho_strict::entry_size;
 use std::alloc::{AllocError, Global};
 
 /// The place of the first entry whose slice is read, and does not begin with a page, or has a page in which another

@@ -31,7 +31,7 @@ impl Judge for ProfileRules {
 
     fn write_more<W: Output>(&self, image: &Image, writer: &mut W) -> Result<(), WriteFault> {
         match self.profile {
-            Profile::Layout | Profile::Strict | Profile::Linked => Ok(()),
+            Profile::Layout | Profile::Strict | Profile::Linked | Profile::Unambiguous => Ok(()),
             Profile::Sealed => write_cdhashes(image, writer),
         }
     }

@@ -13,19 +13,20 @@ use std::alloc::{AllocError, Global};
 use std::convert::AsStr;
 
 /// What the words may be, after the name.
-const USAGE: &str = " layout|strict|linked|sealed FILE";
+const USAGE: &str = " layout|strict|linked|unambiguous|sealed FILE";
 
 /// What `--help` prints.
 pub const HELP: &str = "\
-usage: macho-verify layout|strict|linked|sealed FILE
+usage: macho-verify layout|strict|linked|unambiguous|sealed FILE
 
 Judges a Mach-O file by a profile. Prints the layout of a file that it accepts, and
 otherwise the first rule that the file breaks. FILE - is standard input.
 
-  layout  a loader that follows the headers stays inside the file
-  strict  layout, and every byte that is not zero has one owner
-  linked  strict, and a loader that applies fixups and looks up exports stays inside
-  sealed  linked, and the hashes of the code signature are those of the bytes
+  layout       a loader that follows the headers stays inside the file
+  strict       layout, and every byte that is not zero has one owner
+  linked       strict, and a loader that applies fixups and looks up exports stays inside
+  unambiguous  linked, and readers that look in different ways see one program
+  sealed       unambiguous, and the hashes of the code signature are those of the bytes
 
 Exit status: 0 accepted, 1 refused, 2 usage, 3 a read or a write failed, 4 out of memory.
 ";

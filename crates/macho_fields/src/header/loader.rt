@@ -55,6 +55,9 @@ pub const LC_REQ_DYLD: u32 = 0x8000_0000;
 /// The flag of a segment whose pages a kernel decrypts.
 pub const SG_PROTECTED_VERSION_1: u32 = 0x8;
 
+/// The bit of the flags of a section that is for debuggers alone.
+pub const S_ATTR_DEBUG: u64 = 0x200_0000;
+
 /// The bits of the flags of a section that are its type.
 pub const SECTION_TYPE: u32 = 0xff;
 
@@ -547,6 +550,8 @@ pub mod encryption_info_command_64 {
     pub const CRYPTOFF: u64 = 8;
     /// The number of encrypted bytes.
     pub const CRYPTSIZE: u64 = 12;
+    /// How the bytes are encrypted, or 0 if they are not.
+    pub const CRYPTID: u64 = 16;
 }
 
 /// The offsets of fields of `note_command`, each of 32 bits if nothing else is said.
@@ -621,6 +626,8 @@ pub mod segment_command_64 {
 pub mod section_64 {
     /// The name of the section, of 16 bytes. It has 128 bits.
     pub const SECTNAME: u64 = 0;
+    /// The name of its segment, of 16 bytes. It has 128 bits.
+    pub const SEGNAME: u64 = 16;
     /// The address of the section in memory. It has 64 bits.
     pub const ADDR: u64 = 32;
     /// Its size. It has 64 bits.

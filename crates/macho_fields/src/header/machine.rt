@@ -1,6 +1,9 @@
 //! Of `mach/machine.h`: the processors for which an image is made.
 
 // registry: constants
+/// The bit of a processor with 64-bit addresses.
+pub const CPU_ARCH_ABI64: u32 = 0x100_0000;
+
 /// A 64-bit processor of the x86 family.
 pub const CPU_TYPE_X86_64: u32 = 0x100_0007;
 

@@ -1,9 +1,7 @@
-use Rattle.std.proofs.Common.{◌≡◌, ◌∙◌, ℕ, ◌+◌, ◌≤◌, List, length, Some, ap, arith, refl, sym, subst}
+use Rattle.std.proofs.Common.{◌≤◌, length, arith}
 use Rattle.macho_exports.specs.Exports.{export_table}
 use Rattle.macho_fields.specs.Bytes.{bytes_of}
-use Rattle.macho_spans.specs.declared.span.Span.{Span}
-use Rattle.macho_explain.specs.Wholes.{IsWhole}
-use Rattle.macho_explain.proofs.Wholes.{at_offset, lacks, none_inside, none_named, not_before, whole_read, whole_size}
+use Rattle.macho_explain.proofs.Wholes.{lacks, none_inside, none_named, not_before, whole_read}
 use Rattle.macho_explain.proofs.exports.node_here.Goals as goal
 
 pub returns-in_err-trie_table : goal.returns-in_err-trie_table

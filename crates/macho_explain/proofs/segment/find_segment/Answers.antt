@@ -19,6 +19,8 @@ is_row start image segment row = record {
   last = ap (λ (r : KesvuotSegment). r.last) row;
   file_start = ap (λ (r : KesvuotSegment). r.fileoff) row;
   file_size = ap (λ (r : KesvuotSegment). r.filesize) row;
+  maxprot = ap (λ (r : KesvuotSegment). r.maxprot) row;
+  initprot = ap (λ (r : KesvuotSegment). r.initprot) row;
 }
 
 pub loop-load-init : goal.loop-load-init

@@ -14,5 +14,8 @@ returns-in-Strict-clause-accepted c =
 pub returns-in-Linked-clause-accepted : goal.returns-in-Linked-clause-accepted
 returns-in-Linked-clause-accepted c = rw c.in-Linked.is c.verify_linked.ensures.accepted
 
+pub returns-in-Unambiguous-clause-accepted : goal.returns-in-Unambiguous-clause-accepted
+returns-in-Unambiguous-clause-accepted c = rw c.in-Unambiguous.is c.verify_unambiguous.ensures.accepted
+
 pub returns-in-Sealed-clause-accepted : goal.returns-in-Sealed-clause-accepted
 returns-in-Sealed-clause-accepted c = rw c.in-Sealed.is c.verify_sealed.ensures.accepted

@@ -1,18 +1,11 @@
-use Rattle.std.proofs.Common.{sym, subst, rules, tests}
+use Rattle.std.proofs.Common.{sym, subst}
 use Rattle.macho_fields.specs.FirstPlace.{IsLeastPlace}
-use Rattle.macho_image.specs.Command.{CommandView}
-use Rattle.macho_tables.proofs.Found.{each_command, first_command}
-use Rattle.macho_unambiguous.specs.Order.{ShiftsBefore, BreaksNumberShift}
-use Rattle.macho_unambiguous.proofs.Lasts.{shifts_same}
+use Rattle.macho_tables.proofs.Places.{least_joined}
+use Rattle.macho_unambiguous.specs.Order.{ShiftsAt, ShiftsFixupsAt, BreaksNumberShift}
 use Rattle.macho_unambiguous.proofs.order.number_shift.Goals as goal
-
-pub find-requires-clause-callable : goal.find-requires-clause-callable
-find-requires-clause-callable c = each_command c.args.image.now c.commands.ensures.opened c.commands.ensures.commands (λ x q k. search (rules, tests)) (λ x is. search rules)
 
 pub returns : goal.returns
 returns c =
     let image = c.args.image.now in
-    subst (IsLeastPlace (BreaksNumberShift image)) (sym c.place_of.ensures)
-    (shifts_same image c.last_writable-writable.result c.last_eager-eager.result _ c.last_writable-writable.ensures c.last_eager-eager.ensures
-    (first_command image c.commands.ensures.opened c.commands.ensures.commands _ (λ (v : CommandView). ShiftsBefore c.last_writable-writable.result c.last_eager-eager.result image v.place) c.find.result c.find.ensures.ran
-    (λ y b q k. search (rules, tests))))
+    subst (IsLeastPlace (BreaksNumberShift image)) (sym c.lesser.ensures)
+    (least_joined (ShiftsAt image) (ShiftsFixupsAt image) c.first_shifting-shifting.result c.first_shifted-shifted.result c.first_shifting-shifting.ensures c.first_shifted-shifted.ensures)

@@ -9,8 +9,8 @@ use Rattle.macho_unambiguous.proofs.NamedSections.{first_section}
 use Rattle.macho_unambiguous.proofs.SectionAlone.{told}
 use Rattle.macho_unambiguous.proofs.section_alone.first_over.Goals as goal
 
-pub returns : goal.returns
-returns c =
+pub returns-clause-least : goal.returns-clause-least
+returns-clause-least c =
     let image = c.args.image.now in
     let spans = sorted_spans c.sorted-segments.result in
     let moved = subst (λ (these : List Span). IsPermutation these spans) c.in_ok-mapped_memory.ensures c.sorted-segments.ensures.permutation in

@@ -12,10 +12,13 @@ use Rattle.macho_unambiguous.proofs.SectionAlone.{least_shared, none_shared}
 use Rattle.macho_unambiguous.proofs.section_alone.first_shared.Goals as goal
 
 pub returns-in_default : goal.returns-in_default
-returns-in_default c = none_shared c.args.image.now (unbroken_opened c.args.image.now c.requires) c.in_ok-parts.parts.spans c.in_ok-parts.ensures c.in_default.ensures
+returns-in_default c = record {
+  least = none_shared c.args.image.now (unbroken_opened c.args.image.now c.requires) c.in_ok-parts.parts.spans c.in_ok-parts.ensures c.in_default.ensures;
+  memory = tt;
+}
 
-pub returns : goal.returns
-returns c =
+pub returns-clause-least : goal.returns-clause-least
+returns-clause-least c =
     let image = c.args.image.now in
     let found = sym (option_map_id c.nth.result) ∙ (nth_from_yields_List c.nth.result _ c.in-Some.index c.nth.ensures.ran (sections_yield image c.sections.ensures.opened c.sections.ensures.sections)
     ∙ (ap (λ these. slice_get these c.in-Some.index) c.sections.ensures.sections ∙ slice_get-map (section_at image) (sections image) c.in-Some.index)) in

@@ -11,5 +11,6 @@ returns c =
     record {
       least = subst (IsLeastPlace (BreaksSectionAlone image)) (sym c.lesser.ensures)
           (subst (λ r. IsLeastPlace (BreaksSectionAlone image) (lesser c.in_ok-shared.shared r)) (sym c.lesser-others.ensures)
-          (least_alone image c.requires c.in_ok-shared.shared c.in_ok-shared.ensures c.in_ok-over.over c.first_hiding-hiding.result c.in_ok-over.ensures c.first_hiding-hiding.ensures));
+          (least_alone image c.requires c.in_ok-shared.shared c.in_ok-shared.ensures.least c.in_ok-over.over c.first_hiding-hiding.result c.in_ok-over.ensures.least c.first_hiding-hiding.ensures));
+      memory = tt;
     }

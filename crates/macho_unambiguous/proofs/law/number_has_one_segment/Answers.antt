@@ -1,0 +1,5 @@
+use Rattle.macho_unambiguous.proofs.Numbers.{one_of_number}
+use Rattle.macho_unambiguous.proofs.law.number_has_one_segment.Goals as goal
+
+pub returns : goal.returns
+returns c = one_of_number c.args.image.now c.requires.number c.requires.name
