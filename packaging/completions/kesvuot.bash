@@ -6,7 +6,7 @@ _kesvuot() {
     # Without words of ours, bash completes the names of files.
     COMPREPLY=()
     case $previous in
-        --profile) words="layout strict linked sealed" ;;
+        --profile) words="layout strict linked unambiguous sealed" ;;
         --format) words="text json jsonl sarif junit github" ;;
         --include | --exclude | --jobs) return ;;
         *)

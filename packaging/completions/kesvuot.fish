@@ -10,7 +10,7 @@ complete -c kesvuot -n $none -a diff -d 'Compare the layouts of two files'
 complete -c kesvuot -n $none -a map -d 'Draw a file and its address space'
 complete -c kesvuot -n $none -l version -d 'Print the versions'
 complete -c kesvuot -s h -l help -d 'Show the words'
-complete -c kesvuot -n "__fish_seen_subcommand_from $commands" -l profile -x -a 'layout strict linked sealed' -d 'The rules'
+complete -c kesvuot -n "__fish_seen_subcommand_from $commands" -l profile -x -a 'layout strict linked unambiguous sealed' -d 'The rules'
 
 complete -c kesvuot -n '__fish_seen_subcommand_from check' -l format -x -a 'text json jsonl sarif junit github' \
     -d 'How to print what is found'

@@ -4,7 +4,7 @@
 _macho_verify() {
     local words=
     # Without words of ours, bash completes the names of files.
-    ((COMP_CWORD > 1)) || words="layout strict linked sealed --help --version"
+    ((COMP_CWORD > 1)) || words="layout strict linked unambiguous sealed --help --version"
     COMPREPLY=($(compgen -W "$words" -- "${COMP_WORDS[COMP_CWORD]}"))
 }
 
