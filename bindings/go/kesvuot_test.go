@@ -83,9 +83,10 @@ func changed(file []byte, place int, value byte) []byte {
 // Each file is accepted by the profiles before one, and refused by this one and those after it.
 func TestProfiles(t *testing.T) {
 	program, library := readReal(t, "program"), readReal(t, "library")
-	// Of the two images of the library the first, at 0x30, is not signed. The pages of the second have 4096 bytes: the
-	// last begins at 0x4000, and ends where the signature begins, at 0x4060.
-	signed := verified(t, library).Images()[1].Bytes
+	// Of the two images of the library, which begin at no page, the first is not signed. The pages of the second have
+	// 4096 bytes: the last begins at 0x4000, and ends where the signature begins, at 0x4060.
+	images := verified(t, library).Images()
+	unsigned, signed := images[0].Bytes, images[1].Bytes
 	longer := append(readReal(t, "program"), "more"...)
 	for _, trial := range []struct {
 		what    string
@@ -99,7 +100,8 @@ func TestProfiles(t *testing.T) {
 		// The bind stream begins at 0x3008. No opcode is 0xd0.
 		{"an opcode that is not known", changed(program, 0x3008, 0xd0), Linked, Refused{"bind-opcode", 0x3008}},
 		{"a program that is not signed", program, Sealed, Refused{"signature-missing", 0}},
-		{"a library that is not signed", library, Sealed, Refused{"signature-missing", 0x30}},
+		{"slices that begin at no page", library, Unambiguous, Refused{"fat-page", 8}},
+		{"an image that is not signed", unsigned, Sealed, Refused{"signature-missing", 0}},
 		// A constant in the first page, and a letter of a name in the last
 		{"a changed first page", changed(signed, 0x2a8, signed[0x2a8]^2), Sealed, Refused{"signature-hash", 0}},
 		{"a changed last page", changed(signed, 0x404a, signed[0x404a]^2), Sealed, Refused{"signature-hash", 0x4000}},
@@ -119,7 +121,7 @@ func TestProfiles(t *testing.T) {
 }
 
 func TestNoProfile(t *testing.T) {
-	same(t, "all profiles", fmt.Sprint(profiles()), "[layout strict linked sealed]")
+	same(t, "all profiles", fmt.Sprint(profiles()), "[layout strict linked unambiguous sealed]")
 	for _, none := range []Profile{0, Sealed + 1, 1<<32 - 1} {
 		file, err := Verify(readReal(t, "program"), none)
 		same(t, "a number of no profile", []any{file, err, none.String()}, []any{(*File)(nil), ErrProfile, ""})

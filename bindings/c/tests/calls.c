@@ -53,7 +53,8 @@ static void try_version_and_rules(unsigned long rules) {
 static void try_profiles_of_rules(void) {
     static const uint32_t rules[][2] = {
         {0, KESVUOT_MAGIC}, {KESVUOT_ENTRY, KESVUOT_FAT_STRAY_BYTE}, {KESVUOT_UNCLAIMED_BYTE, KESVUOT_TABLE_REPEATED},
-        {KESVUOT_COMMAND_CONTENT, KESVUOT_SIGNATURE_MISSING}, {KESVUOT_SIGNATURE_HASH, 0}};
+        {KESVUOT_COMMAND_CONTENT, KESVUOT_FAT_COUNT}, {KESVUOT_ENTRY_ONE, KESVUOT_SIGNATURE_MISSING},
+        {KESVUOT_SIGNATURE_HASH, 0}};
     for (uint32_t profile = 0; profile <= KESVUOT_SEALED; profile++) {
         CHECK(kesvuot_rule_profile(rules[profile][0]) == profile);
         CHECK(kesvuot_rule_profile(rules[profile][1]) == (profile + 1) % (KESVUOT_SEALED + 1));
@@ -144,7 +145,7 @@ static void try_names_of_numbers(void) {
     try_platform(12, "PLATFORM_VISIONOSSIMULATOR");
     try_platform(0, NULL);
     try_platform(UINT32_MAX, NULL);
-    const char *const profiles[] = {NULL, "layout", "strict", "linked", "sealed", NULL};
+    const char *const profiles[] = {NULL, "layout", "strict", "linked", "unambiguous", "sealed", NULL};
     for (uint32_t profile = 0; profile < sizeof profiles / sizeof *profiles; profile++) {
         try_profile(profile, profiles[profile]);
     }
@@ -177,24 +178,28 @@ static void try_unknown_profiles(const void *bytes, size_t size) {
     }
 }
 
-// The second image of the library is signed: its last page begins at 0x4000, and ends at 0x4060. It has a name at 0x404a,
-// and a constant at 0x2a8. The first image, which begins at 0x30, is not signed.
+// The slices of the library begin at no page. Its first image is not signed, and its second image is: the last page
+// begins at 0x4000, and ends at 0x4060. It has a name at 0x404a, and a constant at 0x2a8.
 static void try_sealed_verdicts(void) {
-    enum { START = 0x1090, SIZE = 0x4180 };
+    enum { FIRST = 0x30, FIRST_SIZE = 0x1058, START = 0x1090, SIZE = 0x4180 };
     static const struct {
         size_t at;
         uint64_t page;
     } changes[] = {{0x2a8, 0}, {0x404a, 0x4000}};
-    const struct kesvuot_verdict of_one = {0, 1, 0, 0}, unsigned_at = {0x30, 0, KESVUOT_SIGNATURE_MISSING, 0};
+    const struct kesvuot_verdict of_one = {0, 1, 0, 0}, unpaged = {8, 0, KESVUOT_FAT_PAGE, 0};
+    const struct kesvuot_verdict not_signed = {0, 0, KESVUOT_SIGNATURE_MISSING, 0};
     uint8_t bytes[SIZE];
     CHECK(library.size == START + SIZE);
-    try_verdict(KESVUOT_SEALED, KESVUOT_SEALED, library.bytes, library.size, KESVUOT_REFUSED, unsigned_at);
+    try_verdict(KESVUOT_UNAMBIGUOUS, KESVUOT_SEALED, library.bytes, library.size, KESVUOT_REFUSED, unpaged);
+    const uint8_t *const first = library.bytes + FIRST;
+    try_verdict(KESVUOT_LAYOUT, KESVUOT_UNAMBIGUOUS, first, FIRST_SIZE, KESVUOT_OK, of_one);
+    try_verdict(KESVUOT_SEALED, KESVUOT_SEALED, first, FIRST_SIZE, KESVUOT_REFUSED, not_signed);
     for (size_t k = 0; k < sizeof changes / sizeof *changes; k++) {
         const struct kesvuot_verdict another = {changes[k].page, 0, KESVUOT_SIGNATURE_HASH, 0};
         memcpy(bytes, library.bytes + START, SIZE);
         try_all(bytes, SIZE, KESVUOT_OK, of_one);
         bytes[changes[k].at] ^= 2;
-        try_verdict(KESVUOT_LAYOUT, KESVUOT_LINKED, bytes, SIZE, KESVUOT_OK, of_one);
+        try_verdict(KESVUOT_LAYOUT, KESVUOT_UNAMBIGUOUS, bytes, SIZE, KESVUOT_OK, of_one);
         try_verdict(KESVUOT_SEALED, KESVUOT_SEALED, bytes, SIZE, KESVUOT_REFUSED, another);
     }
 }

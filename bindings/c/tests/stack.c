@@ -50,6 +50,7 @@ static const struct {
 } calls[] = {{"verify, layout", verify, KESVUOT_LAYOUT},
              {"verify, strict", verify, KESVUOT_STRICT},
              {"verify, linked", verify, KESVUOT_LINKED},
+             {"verify, unambiguous", verify, KESVUOT_UNAMBIGUOUS},
              {"verify, sealed", verify, KESVUOT_SEALED},
              {"layout", layout, 0},
              {"explain", explain, 0},

@@ -34,6 +34,8 @@ PLAIN_NAMES = {
 # What `_parts` calls a segment and a section without names.
 NAMELESS = ("", "(no name)", ",")
 RELOCATIONS_OF = "relocations of "
+# What it calls a command whose cmd has no name begins with this.
+UNKNOWN = "command "
 GROUPS = ("local", "defined", "undefined")
 
 # The fields that say where a part is.
@@ -73,7 +75,14 @@ MORE_FIELDS: Dict[str, Tuple[str, str]] = {
     **dict.fromkeys(("signature-directory", "signature-whole", "directory-repeated"), ("type offset", "")),
     "symbol-library": ("n_type n_desc", ""), "symbol-value": ("n_type n_sect n_value", ""),
     "symbol-indirect": ("n_type n_value", ""), "indirect-range": ("size flags reserved1 reserved2", ""),
-    **dict.fromkeys(("thread", "command-content"), ("cmd cmdsize", ""))}
+    **dict.fromkeys(("thread", "command-content", "command-known"), ("cmd cmdsize", "")),
+    "fat-count": ("nfat_arch", ""), "fat-header": ("cputype cpusubtype", "magic cputype cpusubtype"),
+    "fat-page": ("cputype offset size", "offset"), "command-once": ("cmd platform", "cmd platform"),
+    "segment-name": ("vmaddr", "vmaddr"),
+    "segment-page": ("vmaddr vmsize fileoff filesize", ""), "segment-protection": ("vmsize maxprot initprot", ""),
+    "bytes-encrypted": ("cryptid flags", ""), "number-shift": ("cmd vmsize", "cmd vmsize initprot"),
+    "section-alone": ("flags", ""),
+    "entry-one": ("cmd entryoff", "filetype")}
 
 
 class Spot(NamedTuple):
@@ -190,7 +199,8 @@ class Case:
         if wanted.kind == "fat-arch":
             return f"entry {wanted.index} ({name.partition(': ')[2]})"
         if wanted.kind == "command":
-            return f"command {wanted.index}" + (f" ({name.rstrip()})" if name.startswith("LC_") else "")
+            known = name.startswith(("LC_", UNKNOWN))
+            return f"command {wanted.index}" + (f" ({name.rstrip().replace(UNKNOWN, '')})" if known else "")
         if wanted.kind == "table":
             # A table without bytes is no part of the map.
             return f"the {name or self._table(wanted).name}"
@@ -220,7 +230,7 @@ class Case:
             return ("fat_arch" if self.data[3] == 0xBE else "fat_arch_64", place) if self.entry else None
         if kind in ("header", "headers"):
             return "mach_header_64", place
-        if kind in ("section", "section-bytes", "section-memory", "relocations"):
+        if kind in ("section", "section-bytes", "section-memory", "relocations") or self._is_of_section(part):
             return "section_64", place
         if kind in CHAIN_STRUCTURES:
             return CHAIN_STRUCTURES[kind], part.start
@@ -240,6 +250,10 @@ class Case:
                     "name"):
             return structure_of(*self._command(place)), place
         return None
+
+    def _is_of_section(self, part: FilePart) -> bool:
+        """Whether a part is the name of the section at the place."""
+        return part.kind == "name" and self.explanation.section is not None and part.described == self.place
 
     @property
     def is_of_page(self) -> bool:

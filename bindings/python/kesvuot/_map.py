@@ -131,7 +131,8 @@ def _object(outcome: Outcome, profile: str, marks: Marks, kept: List[int]) -> Di
         told = outcome.extra.told
         whole.update(verdict=reason_text(outcome), rule=outcome.rule, place=outcome.place, text=rule_text(outcome.rule),
                      says=told.story.says if told else "", why=rule.why, cause=rule.cause, remedy=rule.remedy,
-                     link=link(outcome.rule), broken=broken, others=others)
+                     link=link(outcome.rule), broken=broken, others=others,
+                     readings=[reading._asdict() for reading in told.story.readings] if told else [])
     return whole
 
 

@@ -11,6 +11,9 @@ from ._explanation import explain
 from ._files import Refused
 from ._names import count_text, protection_text
 from ._parts import arch_name
+from ._reader_stories import (
+    bytes_encrypted, command_known, command_once, entry_one, fat_count, fat_header, fat_page, number_shift, section_alone,
+    section_name, segment_name, segment_page, segment_protection)
 from ._reading import Contents
 from ._signature_stories import (
     directory_repeated, signature_blob, signature_directory, signature_hash, signature_missing, signature_slack,
@@ -633,7 +636,11 @@ STORIES: Dict[str, Callable[[Teller], Story]] = {
     "relocation": _relocation, "thread": thread, "command-content": command_content,
     "signature-missing": signature_missing, "signature-executable": Teller.shares,
     "directory-repeated": directory_repeated,
-    "signature-slack": signature_slack, "signature-hash": signature_hash}
+    "signature-slack": signature_slack, "signature-hash": signature_hash,
+    "fat-count": fat_count, "fat-header": fat_header, "fat-page": fat_page, "command-known": command_known,
+    "command-once": command_once, "segment-name": segment_name, "segment-page": segment_page,
+    "segment-protection": segment_protection, "bytes-encrypted": bytes_encrypted, "number-shift": number_shift,
+    "section-name": section_name, "section-alone": section_alone, "entry-one": entry_one}
 
 
 class Told(NamedTuple):

@@ -13,11 +13,23 @@ Number = Tuple[str, int]
 NO_PART = FilePart("", None, 0, 0, 0)
 
 
+class Reading(NamedTuple):
+    """Who reads a file in one way, and what they see."""
+
+    who: str
+    sees: str
+
+
 class Story(NamedTuple):
-    """A sentence, and the numbers with what they are."""
+    """A sentence, the numbers with what they are, and the two readings of a file that is ambiguous."""
 
     says: str
     numbers: List[Number]
+    readings: Tuple[Reading, ...] = ()
+
+    def read_as(self, who: str, sees: str) -> Story:
+        """The same with one more reading."""
+        return self._replace(readings=(*self.readings, Reading(who, sees)))
 
 
 class Teller:
@@ -45,7 +57,7 @@ class Teller:
 
     def shares(self) -> Story:
         """Two parts share bytes or addresses, from `value` up to and including `limit`."""
-        is_memory = self.first_part.kind == "segment-memory"
+        is_memory = self.first_part.kind in ("segment-memory", "section-memory")
         one, some = ("address", "addresses") if is_memory else ("byte", "bytes")
         shared = f"{some} {self.value:#x} up to {self.limit + 1:#x}" if self.value < self.limit else \
             f"{one} {self.value:#x}"

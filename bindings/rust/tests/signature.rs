@@ -144,14 +144,14 @@ fn a_changed_page_has_another_hash() {
     for (changed_at, place) in [(0x2a8, 0), (0x404a, 0x4000)] {
         let mut changed = image.clone();
         changed[changed_at] ^= 2;
-        assert!(kesvuot::verify(&changed, Profile::Linked).is_ok());
+        assert!(kesvuot::verify(&changed, Profile::Unambiguous).is_ok());
         let rule = Rule::SignatureHash;
         let refused = kesvuot::verify(&changed, Profile::Sealed).unwrap_err();
         assert_eq!(refused, Error::Refused { rule, place });
     }
-    // The first image of the library is not signed.
-    let rule = Rule::SignatureMissing;
-    for (file, place) in [(program, 0), (library, 0x30)] {
+    // The slices of the library begin at no page.
+    let (unsigned, unpaged) = (Rule::SignatureMissing, Rule::FatPage);
+    for (file, rule, place) in [(program, unsigned, 0), (library, unpaged, 8)] {
         let refused = kesvuot::verify(&file, Profile::Sealed).unwrap_err();
         assert_eq!(refused, Error::Refused { rule, place });
     }
