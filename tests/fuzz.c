@@ -52,7 +52,10 @@ enum { VERDICTS = KESVUOT_SEALED + 1 };
 #define AND_ONE(rule, name) +1
 
 // How many rules there are. Their numbers begin at 1, and none is left out.
-enum { RULE_COUNT = LAYOUT_RULES(AND_ONE) STRICT_RULES(AND_ONE) LINKED_RULES(AND_ONE) SEALED_RULES(AND_ONE) };
+enum {
+    RULE_COUNT = LAYOUT_RULES(AND_ONE) STRICT_RULES(AND_ONE) LINKED_RULES(AND_ONE) UNAMBIGUOUS_RULES(AND_ONE)
+        SEALED_RULES(AND_ONE)
+};
 
 // The kinds from VERDICT on are no rule, and the rules by their numbers.
 enum {
@@ -1228,6 +1231,7 @@ static uint32_t profile_of(uint32_t rule) {
         LAYOUT_RULES(CASE) return KESVUOT_LAYOUT;
         STRICT_RULES(CASE) return KESVUOT_STRICT;
         LINKED_RULES(CASE) return KESVUOT_LINKED;
+        UNAMBIGUOUS_RULES(CASE) return KESVUOT_UNAMBIGUOUS;
         SEALED_RULES(CASE) return KESVUOT_SEALED;
     default:
         return 0;

@@ -134,17 +134,17 @@ def magic(file: Any, _: int) -> Explanation:
     return Explanation(structure("magic", 0, min(4, len(file.data))), NONE, NONE, first_word(file.data), 0xfeedfacf)
 
 
-def fat_header(file: Any) -> Part:
+def fat_header_part(file: Any) -> Part:
     return structure("fat_header", 0, min(8, len(file.data)))
 
 
 def fat_truncated(file: Any, _: int) -> Explanation:
     first = structure("fat_header", 0, 8) if len(file.data) < 8 else table_part(file)
-    return Explanation(fat_header(file), first, structure("file", 0, len(file.data)), first.size, len(file.data))
+    return Explanation(fat_header_part(file), first, structure("file", 0, len(file.data)), first.size, len(file.data))
 
 
 def fat_empty(file: Any, _: int) -> Explanation:
-    return Explanation(fat_header(file), table_part(file), NONE, 0, 1)
+    return Explanation(fat_header_part(file), table_part(file), NONE, 0, 1)
 
 
 def of_entry(file: Any, place: int, second: Part, value: int, limit: int) -> Explanation:
@@ -1154,9 +1154,196 @@ def of_page(data: bytes, place: int, directory: Part) -> Optional[Explanation]:
     return None if has_hash(data, page, directory, second) else Explanation(page, page, second, index, slots)
 
 
+# The unambiguous profile
+
+
+# The names of the fields of a segment and of a section, by where they begin.
+SEGNAME, SECTNAME, SEGNAME_OF_SECTION, NAME_SIZE = 8, 0, 16, 16
+
+
+def fat_count(file: Any, _: int) -> Explanation:
+    return Explanation(fat_header_part(file), table_part(file), NONE, len(file.entries), 31)
+
+
+def fat_header(file: Any, place: int) -> Explanation:
+    index = entry_at(file, place)
+    image, entry_of = file.slices[index], file.entries[index]
+    wanted = 0xfeedfacf if entry_of.cputype & 0x01000000 else 0xfeedface
+    orders = ("little",) if entry_of.cputype in oracle.JUDGED_PROCESSORS else ("little", "big")
+    if image.data[:4] not in [wanted.to_bytes(4, order) for order in orders]:
+        at = structure("magic", image.start, min(4, image.length), index)
+        return of_entry(file, place, at, first_word(image.data), wanted)
+    order = "big" if image.data[:4] in (oracle.MH_MAGIC_64_BIG, oracle.MH_MAGIC_BIG) else "little"
+    fields = [int.from_bytes(image.data[at:at + 4], order) if image.length >= at + 4 else 0 for at in (4, 8)]
+    at = structure("header", image.start, min(32, image.length))
+    return of_entry(file, place, at, entry_of.cputype << 32 | entry_of.cpusubtype, fields[0] << 32 | fields[1])
+
+
+def fat_page(file: Any, place: int) -> Explanation:
+    entry_of = file.entries[entry_at(file, place)]
+    page = oracle.page_size(entry_of.cputype)
+    if entry_of.offset % page:
+        return of_entry(file, place, NONE, entry_of.offset, page)
+    end = -(-(entry_of.offset + entry_of.size) // page) * page
+    other = next(index for index, it in enumerate(file.entries) if entry_of.offset < it.offset < end)
+    return of_entry(file, place, slice_part(file, other), file.entries[other].offset, end)
+
+
+def command_known(image: Any, place: int) -> Explanation:
+    return of_command(image, place, command_part(image, place), NONE, little(image.data, place), 0)
+
+
+def command_once(image: Any, place: int) -> Explanation:
+    own = next(command for command in image.commands if command.place == place)
+    platform = oracle.platform_of(image, own)
+    number = own.cmd if platform is None else platform
+    earlier = next(command for command in image.commands if command.place < place and (
+        command.cmd == own.cmd if platform is None else oracle.platform_of(image, command) == platform))
+    second = command_part(image, earlier.place)
+    return of_command(image, place, command_part(image, place), second, number, number)
+
+
+def part_of_name(start: int, described: int) -> Part:
+    return Part("name", NO_INDEX, start, NAME_SIZE, described)
+
+
+def tail_of(image: Any, start: int, described: int) -> Optional[tuple[Part, Part, int, int]]:
+    """The first byte past a name that is not zero, and the name."""
+    characters = image.data[start:start + NAME_SIZE]
+    for offset in range(len(oracle.up_to_zero(characters)), NAME_SIZE):
+        if characters[offset]:
+            return structure("byte", start + offset, 1), part_of_name(start, described), characters[offset], 0
+    return None
+
+
+def segment_name(image: Any, place: int) -> Explanation:
+    own = segment_at(image, place)
+    found = tail_of(image, place + SEGNAME, place)
+    if found:
+        return of_command(image, place, *found)
+    named = oracle.segments_named(image, oracle.up_to_zero(own.segname))
+    if named[0].place < place:
+        return of_command(image, place, segment_part(image, own), segment_part(image, named[0]), place, named[0].place)
+    if not oracle.up_to_zero(own.segname):
+        return of_command(image, place, part_of_name(place + SEGNAME, place), NONE, 0, 1)
+    texts = oracle.text_segments(image)
+    other = image.base_segment if own in texts else next(iter(texts), None)
+    second = memory_part(image, other) if other else NONE
+    return of_command(image, place, memory_part(image, own), second, own.vmaddr, other.vmaddr if other else 0)
+
+
+def segment_page(image: Any, place: int) -> Explanation:
+    own, page = segment_at(image, place), oracle.page_size(image.header.cputype)
+    if own.vmsize and own.vmaddr % page:
+        return of_command(image, place, memory_part(image, own), NONE, own.vmaddr, page)
+    return of_command(image, place, segment_part(image, own), NONE, own.fileoff, page)
+
+
+def segment_protection(image: Any, place: int) -> Explanation:
+    own = segment_at(image, place)
+    limit = own.maxprot if own.initprot & ~own.maxprot else 7
+    return of_command(image, place, memory_part(image, own), NONE, own.initprot, limit)
+
+
+def bytes_encrypted(image: Any, place: int) -> Explanation:
+    command = listed_at(image, place)
+    if command.cmd == oracle.LC_SEGMENT_64:
+        return of_command(image, place, segment_part(image, command), NONE, command.flags, 8)
+    table = table_parts(image, command)[0]
+    second = next((segment_part(image, it) for it in image.segments
+                   if it.fileoff <= table.start < it.fileoff + it.filesize), NONE)
+    return of_command(image, place, table, second, command.cryptid, 0)
+
+
+def number_shift(image: Any, place: int) -> Explanation:
+    own = next((segment for segment in image.segments if segment.place == place), None)
+    if own is None:
+        later = next(command for command in image.commands if command.place > place and command.cmd in oracle.LIBRARIES
+                     and command.cmd != oracle.LC_LAZY_LOAD_DYLIB)
+        second = command_part(image, later.place)
+        return of_command(image, place, command_part(image, place), second, little(image.data, place), later.cmd)
+    if own.vmsize:
+        number, run = segment_index(image, own), run_number(image, own)
+        if number != run:
+            return of_command(image, place, memory_part(image, own), NONE, number, run)
+        first = next(iter(own.sections), None)
+        if first is None:
+            return of_command(image, place, memory_part(image, own), NONE, own.vmaddr, 0)
+        return of_command(image, place, memory_part(image, own), section_memory(image, first), own.vmaddr, first.addr)
+    later = next(it for it in image.segments if it.place > place and oracle.is_writable(it))
+    return of_command(image, place, memory_part(image, own), memory_part(image, later), own.vmsize, later.vmsize)
+
+
+def run_number(image: Any, own: Any) -> int:
+    """The number of a segment by the segments that have sections. A segment __PAGEZERO is counted before them."""
+    earlier = [segment for segment in image.segments if segment.place < own.place and segment.nsects]
+    return len(earlier) + bool(oracle.segments_named(image, b"__PAGEZERO"))
+
+
+def section_memory(image: Any, section: Any) -> Part:
+    return Part("section_memory", section_index(image, section.place), section.addr, section.size, section.place)
+
+
+def section_name(image: Any, place: int) -> Explanation:
+    own = image.sections[section_index(image, place)]
+    found = tail_of(image, place + SECTNAME, place)
+    if found:
+        return of_section(image, place, *found)
+    start, other = place + SEGNAME_OF_SECTION, own.segment.place + SEGNAME
+    for at in (0, 8):
+        numbers = [little(image.data, it + at, 8) for it in (start, other)]
+        if numbers[0] != numbers[1]:
+            return of_section(image, place, part_of_name(start, place), part_of_name(other, own.segment.place), *numbers)
+    earlier = next(index for index, it in enumerate(image.sections) if all(
+        oracle.up_to_zero(one) == oracle.up_to_zero(two)
+        for one, two in ((it.sectname, own.sectname), (it.segname, own.segname))))
+    second = image.sections[earlier].place
+    return of_section(image, place, structure("section", place, 80, section_index(image, place)),
+                      structure("section", second, 80, earlier), place, second)
+
+
+def section_alone(image: Any, place: int) -> Explanation:
+    own = image.sections[section_index(image, place)]
+    memory = section_memory(image, own)
+    if own.segment.vmsize:
+        others = [section_memory(image, it) for it in image.sections if it.place < place and oracle.is_looked_for(it)]
+    else:
+        others = [memory_part(image, it) for it in image.segments]
+    for other in others:
+        found = shared_by(memory, other)
+        if found:
+            return of_section(image, place, memory, other, *found)
+    start = own.segment.fileoff + own.addr - own.segment.vmaddr
+    hidden = next(at for at in range(start, start + own.size) if image.data[at])
+    return of_section(image, place, memory, structure("byte", hidden, 1), image.data[hidden], 0)
+
+
+def entry_one(image: Any, place: int) -> Explanation:
+    own, commands = command_part(image, place), [it for it in image.commands if it.cmd in oracle.ENTRY_COMMANDS]
+    command = next(it for it in commands if it.place == place)
+    if command is not commands[0]:
+        second = command_part(image, commands[0].place)
+        return of_command(image, place, own, second, command.cmd, commands[0].cmd)
+    if image.header.filetype != oracle.MH_EXECUTE:
+        return of_command(image, place, own, structure("header", 0, 32), image.header.filetype, oracle.MH_EXECUTE)
+    address = oracle.entry_address(image, command)
+    segment = next(it for it in image.segments if it.vmaddr <= address < it.vmaddr + it.vmsize)
+    byte = segment.fileoff + address - segment.vmaddr
+    if command.cmd == oracle.LC_MAIN and image.only(oracle.LC_MAIN).entryoff != byte:
+        second, entryoff = memory_part(image, segment), image.only(oracle.LC_MAIN).entryoff
+        return of_command(image, place, own, second, entryoff, byte)
+    table = oracle.table_of(image, "data in code")
+    for index, start in enumerate(range(table.start, table.end, 8)):
+        data = oracle.read(image.data, start, "data_in_code_entry")
+        if data.offset <= byte < data.offset + data.length:
+            second = Part("data_in_code", index, data.offset, data.length, start)
+            return of_command(image, place, own, second, byte, data.offset + data.length)
+    raise ValueError("no data")
+
+
 OF_FILE = {rule.__name__: rule for rule in (
     magic, fat_truncated, fat_slice_outside, fat_slice_in_table, fat_align, fat_overlap, fat_duplicate,
-    fat_slice_magic, fat_empty, fat_stray_byte)}
+    fat_slice_magic, fat_empty, fat_stray_byte, fat_count, fat_header, fat_page)}
 OF_IMAGE = {rule.__name__: rule for rule in (
     header_truncated, arch_mismatch, file_type, commands_outside, command_walk, command_short, command_repeated,
     dylib_id, name, segment_address, segment_size, segment_file, segment_overlap, section_address, section_file,
@@ -1167,5 +1354,6 @@ OF_IMAGE = {rule.__name__: rule for rule in (
     export_node, export_total, export_terminal, export_library, export_address, function_number, function_start,
     data_in_code, init_offset, signature_blob, signature_directory, signature_whole, symbol_library, symbol_value, symbol_indirect,
     indirect_range, obsolete_table, relocation, thread, command_content, signature_missing, signature_executable,
-    directory_repeated, signature_slack, signature_hash)}
+    directory_repeated, signature_slack, signature_hash, command_known, command_once, segment_name, segment_page,
+    segment_protection, bytes_encrypted, number_shift, section_name, section_alone, entry_one)}
 OF_IMAGE.update(rebase_slot=bad_slot, bind_slot=bad_slot, rebase_total=total, bind_total=total)

@@ -8,6 +8,7 @@ macho-verify does; tests/dyld loads what it accepts.
     oracle.py where FILE SLICE ADDRESS    the same for `macho-check where FILE SLICE ADDRESS`
     oracle.py --strict FILE               the same for `macho-verify strict FILE`
     oracle.py --linked FILE               the same for `macho-verify linked FILE`
+    oracle.py --unambiguous FILE          the same for `macho-verify unambiguous FILE`
     oracle.py --sealed FILE               the same for `macho-verify sealed FILE`
 
 It is written to be read beside docs/rules, and has the same order. A rule is a function with its name. It yields
@@ -112,6 +113,7 @@ MH_MAGIC_BIG = bytes.fromhex("feedface")
 CPU_SUBTYPE_MASK = 0xff000000
 CPU_TYPE_X86_64 = 0x01000007
 CPU_TYPE_ARM64 = 0x0100000c
+CPU_ARCH_ABI64 = 0x01000000
 ARCHITECTURES = {
     (CPU_TYPE_X86_64, 3): "x86_64",
     (CPU_TYPE_X86_64, 8): "x86_64h",
@@ -120,7 +122,9 @@ ARCHITECTURES = {
 }
 
 # mach-o/loader.h
+MH_EXECUTE = 2
 SECTION_TYPE = 0x000000ff
+S_ATTR_DEBUG = 0x02000000
 S_ZEROFILL, S_GB_ZEROFILL, S_THREAD_LOCAL_ZEROFILL = 0x1, 0xc, 0x12
 # The sections with indirect entries: of pointers, lazy or not, of stubs, and of pointers of two other types.
 S_SYMBOL_STUBS = 0x8
@@ -215,6 +219,17 @@ HELD_COMMANDS = {
 ROUTINES = (LC_ROUTINES, LC_ROUTINES_64)
 THREADS = (LC_THREAD, LC_UNIXTHREAD)
 
+# The processors whose slices are judged, and the bytes of a page of x86_64 and of all others.
+JUDGED_PROCESSORS = (CPU_TYPE_X86_64, CPU_TYPE_ARM64)
+X86_64_PAGE_SIZE, OTHER_PAGE_SIZE = 0x1000, 0x4000
+
+# A table of fat_arch has fewer entries than this. With as many, readers take the file for a Java class.
+LEAST_JAVA_COUNT = 31
+
+# The commands that say where a program begins, and the library that is loaded at its first use.
+ENTRY_COMMANDS = (LC_MAIN, *THREADS)
+LC_LAZY_LOAD_DYLIB = 0x20
+
 # The kinds of data in code, from DICE_KIND_DATA up to and including DICE_KIND_ABS_JUMP_TABLE32.
 DICE_KINDS = range(1, 6)
 
@@ -304,6 +319,13 @@ POINTER_FORMATS = {
     int(number): ((int(following), int(last_of_next)), int(step), int(bind), (int(ordinal), int(last_of_ordinal)))
     for number, following, last_of_next, step, bind, ordinal, last_of_ordinal in rows_of(
         r"^\| (\d+) \| `DYLD_CHAINED_PTR_\w+` \| (\d+) to (\d+) \| (\d+) \| (\d+) \| (\d+) to (\d+) \|$", "linked")
+}
+
+# The commands that readers expect once, and the platforms of the commands for one alone.
+SINGLE_COMMANDS = [int(cmd, 16) for cmd in rows_of(r"^\| `LC_\w+` \| (0x\w+) \|$", "unambiguous")]
+VERSION_PLATFORMS = {
+    int(cmd, 16): int(platform)
+    for cmd, platform in rows_of(r"^\| `LC_\w+` \| (0x\w+) \| (\d+) \(`PLATFORM_\w+`\) \|$", "unambiguous")
 }
 
 # The data of the commands that have some but are not listed: the structure, the start, the count, the bytes per entry.
@@ -727,6 +749,13 @@ def indirect_index(image):
                 yield place
 
 # Rule of the entry
+
+def place_at(image, address):
+    """The place of the byte of the file that is at an address, or None."""
+    for segment in image.segments:
+        if is_mapped(segment) and is_in_file_part(address, segment):
+            return segment.fileoff + address - segment.vmaddr
+    return None
 
 def is_executable(image, address):
     """The address is in a file part that is mapped and executable."""
@@ -1733,13 +1762,16 @@ def indirect_range(image):
             if stride == 0 or section.size % stride != 0 or section.reserved1 + section.size // stride > entries:
                 yield section.place
 
+def has_fixups(image):
+    """A command is for fixups, whatever tables it names."""
+    return any("fixups" in kinds_of(command) for command in image.commands)
+
 def obsolete_table(image):
     """The LC_DYSYMTAB has contents, modules or references; or relocations, and a command names fixups."""
     dysymtab = image.only(LC_DYSYMTAB)
     if dysymtab is not None:
-        has_fixups = any("fixups" in kinds_of(command) for command in image.commands)
         if (any((dysymtab.ntoc, dysymtab.nmodtab, dysymtab.nextrefsyms))
-                or has_fixups and any((dysymtab.nextrel, dysymtab.nlocrel))):
+                or has_fixups(image) and any((dysymtab.nextrel, dysymtab.nlocrel))):
             yield dysymtab.place
 
 def relocations(image):
@@ -1886,6 +1918,198 @@ def command_content(image):
         elif command.cmd in HELD_COMMANDS and not has_good_content(image, command):
             yield command.place
 
+# The unambiguous profile of docs/rules/unambiguous.md. Its rules may take for granted that all above are unbroken as well.
+
+def page_size(cputype):
+    return X86_64_PAGE_SIZE if cputype == CPU_TYPE_X86_64 else OTHER_PAGE_SIZE
+
+def fat_count(file):
+    """The file begins with `FAT_MAGIC`, and `nfat_arch` is 31 or more."""
+    if file.data[:4] == FAT_MAGIC and len(file.entries) >= LEAST_JAVA_COUNT:
+        yield 4
+
+def cputype_of_header(image):
+    """The `cputype` of a header, in the order of its magic number; None where the slice ends before that does."""
+    order = "big" if image.data[:4] in (MH_MAGIC_64_BIG, MH_MAGIC_BIG) else "little"
+    return int.from_bytes(image.data[4:8], order) if image.length >= 8 else None
+
+def fat_header(file):
+    """The header of the slice has another `cputype` than the entry, or a magic number of another width than this says; or
+    the slice is read, and its `cpusubtype` differs in a bit; or it is not read, and the processor is judged."""
+    for image in file.slices:
+        cputype = image.entry.cputype
+        is_wide = image.data[:4] in (MH_MAGIC_64, MH_MAGIC_64_BIG)
+        if image.is_64_bit:
+            is_other = image.header.cpusubtype != image.entry.cpusubtype
+        else:
+            is_other = cputype in JUDGED_PROCESSORS
+        if cputype_of_header(image) != cputype or is_wide != (cputype & CPU_ARCH_ABI64 != 0) or is_other:
+            yield image.entry.place
+
+def fat_page(file):
+    """The slice is read, and it does not begin at a page, or another one begins past it, before its last page ends."""
+    # Each slice has bytes, and no two share one: the next one begins least of those that begin past it.
+    starts = sorted(entry.offset for entry in file.entries)
+    for image in file.slices:
+        if image.is_64_bit:
+            page = page_size(image.entry.cputype)
+            pages_end = -(-(image.start + image.length) // page) * page
+            at = bisect.bisect(starts, image.start)
+            if image.start % page != 0 or at < len(starts) and starts[at] < pages_end:
+                yield image.entry.place
+
+def command_known(image):
+    """No rule knows the command, with all 32 bits of `cmd`."""
+    for command in image.commands:
+        if command.cmd not in LISTED and command.cmd not in HELD_COMMANDS and command.cmd not in THREADS:
+            yield command.place
+
+def platform_of(image, command):
+    """The platform whose versions a command has, or None."""
+    if command.cmd == LC_BUILD_VERSION:
+        return read(image.data, command.place, "build_version_command").platform
+    return VERSION_PLATFORMS.get(command.cmd)
+
+def command_once(image):
+    """Readers look for one command of this kind, and an earlier one is of it too; or an earlier one has the versions of
+    the same platform."""
+    earlier_commands, earlier_platforms = set(), set()
+    for command in image.commands:
+        platform = platform_of(image, command)
+        if command.cmd in SINGLE_COMMANDS and command.cmd in earlier_commands or platform in earlier_platforms:
+            yield command.place
+        earlier_commands.add(command.cmd)
+        if platform is not None:
+            earlier_platforms.add(platform)
+
+def has_byte_past_name(characters):
+    """Of the 16 bytes of a name, one past the first zero byte is not zero."""
+    return any(characters[len(up_to_zero(characters)):])
+
+def segment_name(image):
+    """A byte past the name is not zero; or the segment has no name, or that of an earlier one; or it is named __TEXT and
+    has not the base, or has the base and is not named __TEXT."""
+    earlier = set()
+    for segment in image.segments:
+        own = up_to_zero(segment.segname)
+        is_text, has_base = own == b"__TEXT", segment is image.base_segment
+        if has_byte_past_name(segment.segname) or own == b"" or own in earlier or is_text != has_base:
+            yield segment.place
+        earlier.add(own)
+
+def segment_page(image):
+    """The segment is mapped and does not begin at a page in memory; or it has bytes, which do not begin at one."""
+    page = page_size(image.header.cputype)
+    for segment in image.segments:
+        if is_mapped(segment) and segment.vmaddr % page != 0 or segment.filesize > 0 and segment.fileoff % page != 0:
+            yield segment.place
+
+def segment_protection(image):
+    """The segment is mapped, and `initprot` has a bit that `maxprot` lacks, or one above 7."""
+    known = VM_PROT_READ | VM_PROT_WRITE | VM_PROT_EXECUTE
+    for segment in image.segments:
+        if is_mapped(segment) and segment.initprot & ~(segment.maxprot & known) != 0:
+            yield segment.place
+
+def bytes_encrypted(image):
+    """`cryptid` is not 0; or a kernel decrypts the segment."""
+    for command in image.listed:
+        if (command.cmd == LC_ENCRYPTION_INFO_64 and command.cryptid != 0
+                or command.cmd == LC_SEGMENT_64 and is_protected(command)):
+            yield command.place
+
+def named_by_fixups(image):
+    """The places of the segments that fixups name: those that an opcode sets, and those with starts of chains."""
+    numbers = {opcode.imm for table in streams(image, *REBASE_STREAMS, *BIND_STREAMS)
+               for opcode in decode(image, table)[0] if opcode.name.endswith("_SET_SEGMENT_AND_OFFSET_ULEB")}
+    named = {segment.place for k, segment in enumerate(image.segments) if k in numbers}
+    table = chain_table(image)
+    return named | {segment.place for segment, _ in starts_of_segments(image, table)} if table else named
+
+def numbers_by_sections(image):
+    """For each segment how many earlier ones have sections, and one more where any segment is a __PAGEZERO."""
+    number_of = 1 if segments_named(image, b"__PAGEZERO") else 0
+    for segment in image.segments:
+        yield number_of
+        number_of += segment.nsects > 0
+
+def number_shift(image):
+    """The segment is not mapped, and a later one is writable; or the library is loaded late, and a later one is not; or
+    fixups name the segment, and it has no section, or by its sections its number or its start is another."""
+    named = named_by_fixups(image)
+    last_writable = max((segment.place for segment in image.segments if is_writable(segment)), default=0)
+    for segment in image.segments:
+        if not is_mapped(segment) and segment.place < last_writable:
+            yield segment.place
+    for k, (segment, number_of) in enumerate(zip(image.segments, numbers_by_sections(image))):
+        if segment.place in named:
+            if segment.nsects == 0 or number_of != k or segment.sections[0].addr != segment.vmaddr:
+                yield segment.place
+    libraries = [command for command in image.commands if command.cmd in LIBRARIES]
+    last_eager = max((command.place for command in libraries if command.cmd != LC_LAZY_LOAD_DYLIB), default=0)
+    for command in libraries:
+        if command.cmd == LC_LAZY_LOAD_DYLIB and command.place < last_eager:
+            yield command.place
+
+def section_name(image):
+    """A byte past the section's name is not zero; or it has not all bytes of the segment's name; or an earlier section
+    has both names."""
+    earlier = set()
+    for section in image.sections:
+        both = up_to_zero(section.segname), up_to_zero(section.sectname)
+        if (has_byte_past_name(section.sectname) or section.segname != section.segment.segname or both in earlier):
+            yield section.place
+        earlier.add(both)
+
+def is_looked_for(section):
+    """The section has bytes, and is none for a debugger, for which no reader looks at an address."""
+    return section.size > 0 and (is_mapped(section.segment) or section.flags & S_ATTR_DEBUG == 0)
+
+def hides_byte(image, section):
+    """The section shows a zero for a byte of its segment that is none."""
+    segment = section.segment
+    start = segment.fileoff + section.addr - segment.vmaddr
+    return is_zero_fill(section) and any(image.data[start:min(start + section.size, segment.fileoff + segment.filesize)])
+
+def is_over_segment(image, section):
+    """The section has an address of a mapped segment."""
+    return any(max(section.addr, segment.vmaddr) < min(section.addr + section.size, segment.vmaddr + segment.vmsize)
+               for segment in image.segments)
+
+def section_alone(image):
+    """The section is in a mapped segment, and it shares an address with an earlier one, or hides a byte; or it is in
+    another segment, and has an address of a mapped one."""
+    looked_for = [section for section in image.sections if is_looked_for(section)]
+    yield from first_sharing((section.place, section.addr, section.size) for section in looked_for
+                             if is_mapped(section.segment))
+    for section in looked_for:
+        if hides_byte(image, section) if is_mapped(section.segment) else is_over_segment(image, section):
+            yield section.place
+
+def entry_address(image, command):
+    """The address that an `LC_MAIN` or a thread names."""
+    if command.cmd == LC_MAIN:
+        return image.base + image.only(LC_MAIN).entryoff
+    return start_of_thread(image, command)
+
+def is_data(image, place):
+    """An entry of the data in code covers the byte."""
+    table = table_of(image, "data in code")
+    entries = range(table.start, table.end, SIZES["data_in_code_entry"]) if table else []
+    return any(entry.offset <= place < entry.offset + entry.length
+               for entry in (read(image.data, start, "data_in_code_entry") for start in entries))
+
+def entry_one(image):
+    """An `LC_MAIN` or a thread follows another one, or is not in a program; or the byte of the entry is not at `entryoff`
+    in the file, or is data in code."""
+    commands = [command for command in image.commands if command.cmd in ENTRY_COMMANDS]
+    for command in commands:
+        place = place_at(image, entry_address(image, command))
+        is_elsewhere = command.cmd == LC_MAIN and place != image.only(LC_MAIN).entryoff
+        if (command is not commands[0] or image.header.filetype != MH_EXECUTE or is_elsewhere
+                or is_data(image, place)):
+            yield command.place
+
 # The sealed profile of docs/rules/sealed.md. Its rules may take for granted that all above are unbroken as well.
 
 def signature_missing(image):
@@ -1979,6 +2203,11 @@ LINKED_RULES_OF_AN_IMAGE = [
     symbol_library, symbol_value, symbol_indirect, indirect_range, obsolete_table, relocation,
     thread, command_content,
 ]
+UNAMBIGUOUS_RULES_OF_THE_FILE = [fat_count, fat_header, fat_page]
+UNAMBIGUOUS_RULES_OF_AN_IMAGE = [
+    command_known, command_once, segment_name, segment_page, segment_protection, bytes_encrypted, number_shift,
+    section_name, section_alone, entry_one,
+]
 SEALED_RULES_OF_AN_IMAGE = [
     signature_missing, signature_executable, directory_repeated, signature_slack, signature_hash,
 ]
@@ -2009,13 +2238,24 @@ def first_linked_broken(file):
     """The same with the linked profile, which is judged where no rule of the other two is broken."""
     return first_strictly_broken(file) or first_of(file, [], LINKED_RULES_OF_AN_IMAGE)
 
+def first_unambiguous_broken(file):
+    """The same with the unambiguous profile, which is judged where no rule of the other three is broken."""
+    return first_linked_broken(file) or first_of(
+        file, UNAMBIGUOUS_RULES_OF_THE_FILE if file.is_universal else [], UNAMBIGUOUS_RULES_OF_AN_IMAGE)
+
 def first_sealed_broken(file):
-    """The same with the sealed profile, which is judged where no rule of the other three is broken."""
-    return first_linked_broken(file) or first_of(file, [], SEALED_RULES_OF_AN_IMAGE)
+    """The same with the sealed profile, which is judged where no rule of the other four is broken."""
+    return first_unambiguous_broken(file) or first_of(file, [], SEALED_RULES_OF_AN_IMAGE)
 
 # What is judged by each profile: it too, and all before it.
 PROFILES = {"layout": first_broken, "strict": first_strictly_broken, "linked": first_linked_broken,
-            "sealed": first_sealed_broken}
+            "unambiguous": first_unambiguous_broken, "sealed": first_sealed_broken}
+# The rules of each profile alone, in the order of judgment.
+RULES = {"layout": RULES_OF_THE_FILE + RULES_OF_AN_IMAGE,
+         "strict": STRICT_RULES_OF_THE_FILE + STRICT_RULES_OF_AN_IMAGE,
+         "linked": LINKED_RULES_OF_AN_IMAGE,
+         "unambiguous": UNAMBIGUOUS_RULES_OF_THE_FILE + UNAMBIGUOUS_RULES_OF_AN_IMAGE,
+         "sealed": SEALED_RULES_OF_AN_IMAGE}
 
 # The layout, as docs/reference/commands.md has its lines
 
@@ -2117,12 +2357,11 @@ def check(data, profile="layout"):
 
 def at_address(image, address):
     """What is at an address: at most one segment of an image that breaks no rule has it."""
-    for segment in image.segments:
-        if segment.vmaddr <= address < segment.vmaddr + segment.vmsize:
-            if is_in_file_part(address, segment):
-                return "file 0x%x\n" % (segment.fileoff + address - segment.vmaddr)
-            return "zero\n"
-    return "unmapped\n"
+    place = place_at(image, address)
+    if place is not None:
+        return "file 0x%x\n" % place
+    is_there = any(segment.vmaddr <= address < segment.vmaddr + segment.vmsize for segment in image.segments)
+    return "zero\n" if is_there else "unmapped\n"
 
 def where(data, index, address):
     file = File(data)
@@ -2143,10 +2382,11 @@ def number(word):
 def answer(words):
     """The answer to the words of a call: FILE, one of the further profiles and FILE, or `where` FILE SLICE ADDRESS."""
     is_where = len(words) == 4 and words[0] == "where"
-    is_further = len(words) == 2 and words[0] in ("--strict", "--linked", "--sealed")
+    further = ["--" + profile for profile in PROFILES if profile != "layout"]
+    is_further = len(words) == 2 and words[0] in further
     if not is_where and not is_further and len(words) != 1:
-        usage = "usage: oracle.py FILE | --strict FILE | --linked FILE | --sealed FILE | where FILE SLICE ADDRESS\n"
-        return 2, "", usage
+        calls = ["FILE", *(word + " FILE" for word in further), "where FILE SLICE ADDRESS"]
+        return 2, "", "usage: oracle.py %s\n" % " | ".join(calls)
     if is_where and (number(words[2]) is None or number(words[3]) is None):
         return 2, "", "macho-check: bad number\n"
     path = words[0] if len(words) == 1 else words[1]

@@ -6,9 +6,10 @@ and mutants of the vectors and of all files. Mutant N of a seed is always the sa
 case it prints a line of three texts with tabs between them: the case, what was found, and what is wanted. For each
 disagreement it prints both answers on standard error, and keeps the file.
 
-The program is macho-check. With --strict, --linked or --sealed it is macho-verify, which judges by that profile: by the
-linked one the vectors of linked.txt and mutants of tables as well, and by the sealed one the vectors of sealed.txt and
-mutants of sealed files as well. macho-verify has no `where`: nothing is asked of addresses then.
+The program is macho-check. With --strict, --linked, --unambiguous or --sealed it is macho-verify, which judges by that
+profile: by the linked one the vectors of linked.txt and mutants of tables as well, by the unambiguous one the vectors of
+unambiguous.txt and mutants of what readers look for, and by the sealed one the vectors of sealed.txt and mutants of
+sealed files. macho-verify has no `where`: nothing is asked of addresses then.
 """
 
 import argparse
@@ -19,6 +20,7 @@ import subprocess
 import sys
 import tempfile
 from collections import Counter, namedtuple
+from itertools import chain
 
 from fixtures.file_mutants import WAYS_OF, mutant, says_more, some_address, weight, written
 from fixtures.files import REPORTS, SEALED, profile_of, signed_image, vector_files
@@ -194,13 +196,18 @@ def judge_vectors(report, oracle, program, profile):
         if not is_whole(path, profile):
             known = sum(vector.wanted != "" for vector in vectors)
         report.case("the verdicts of %s, by hand" % path.name, "%d verdicts" % right, "%d verdicts" % known)
-    rules = {"layout": oracle.RULES_OF_THE_FILE + oracle.RULES_OF_AN_IMAGE,
-             "strict": oracle.STRICT_RULES_OF_THE_FILE + oracle.STRICT_RULES_OF_AN_IMAGE,
-             "linked": oracle.LINKED_RULES_OF_AN_IMAGE,
-             "sealed": oracle.SEALED_RULES_OF_AN_IMAGE}
-    names = {rule.__name__.replace("_", "-") for each in up_to(profile) for rule in rules[each]}
+    names = {rule.__name__.replace("_", "-") for each in up_to(profile) for rule in oracle.RULES[each]}
     unbroken = " ".join(names - set(seen))
     report.case("rules that no vector breaks first", unbroken or "none", "none")
+
+def find_difference(oracle, profile):
+    """Says the first vector of the profile's own that has another verdict by hand than the oracle gives it."""
+    for path in filter(lambda path: is_whole(path, profile), vector_files(profile)):
+        for vector in read_vectors(path):
+            says = oracle_answer(oracle, for_verdict(vector.name, vector.data, profile))
+            if not says_verdict(says, vector.wanted):
+                print("the first difference: %s: %s" % (path.name, vector.name), file=sys.stderr)
+                return
 
 def agrees_by_hand(report, question, says, verdict):
     """Whether the oracle, which says this, has the verdict, where one is known."""
@@ -255,50 +262,61 @@ ADDRESSES = [
     ("library", "2", "0x0", "macho-check: no such image"),
 ]
 
-# What the sealed profile says of the real files.
-UNSIGNED = {"program": b"refused: signature-missing at 0x0\n", "library": b"refused: signature-missing at 0x30\n"}
+# What the profiles say of the real files that refuse one. The slices of the library begin at no page.
+REFUSED = {
+    "unambiguous": {"library": b"refused: fat-page at 0x8\n"},
+    "sealed": {"program": b"refused: signature-missing at 0x0\n", "library": b"refused: fat-page at 0x8\n"},
+}
 
 def judge_real(report, oracle, program, profile):
     questions = []
     for name, data, layout in read_real():
         questions.append(for_verdict("the real " + name, data, profile))
-        wanted = (1, UNSIGNED[name]) if profile == "sealed" else (0, layout)
+        refused = REFUSED.get(profile, {}).get(name)
+        wanted = (1, refused) if refused else (0, layout)
         is_same = oracle_answer(oracle, questions[-1]) == wanted
         report.case("the answer to the real %s, by hand" % name, "the same" if is_same else "another", "the same")
     report.agreeing("the real files", compare(oracle, program, questions).differences, len(questions), "answers")
 
-# Signed files: the name of a vector, the bytes of its pages, and where its code is.
-SMALL_FILES = (("48 pages of 8 bytes", 8, range(0x110, 0x180)), ("the file as it was", 0x80, range(0x110, 0x180)),
-               ("two directories, with pages of two sizes", 0x80, range(0x110, 0x180)))
-# The same for the real slice that is signed: each REAL_STEP-th byte, and those beside where pages begin and end.
-REAL_PAGE, REAL_CODE, REAL_LIMIT, REAL_STEP = 0x1000, range(0x2a0, 0x2a8), 0x4060, 41
+# Signed vectors by name, and how many bytes their pages have. All bytes of their headers are changed, some of their
+# code, and none from the limit on.
+SMALL_FILES = (("48 pages of 256 bytes", 0x100), ("the file as it was", 0x1000),
+               ("two directories, with pages of two sizes", 0x1000))
+SMALL_HEADERS, SMALL_CODE, SMALL_LIMIT = range(0x110), range(0x1000, 0x1070), 0x3000
+# The real slice that is signed: how many bytes its pages have, some of its code, and its limit.
+REAL_PAGE, REAL_CODE, REAL_LIMIT = 0x1000, range(0x2a0, 0x2a8), 0x4060
+# In all of them each STEP-th byte is changed too, and those beside where pages begin and end.
+STEP = 41
+
+def places_of_one_byte(limit, page, *ranges):
+    near = {start + offset for start in range(0, limit, page) for offset in (-1, 0, 1)}
+    return sorted({*range(0, limit, STEP), *near, limit - 1, *chain(*ranges)} & set(range(limit)))
 
 def files_of_one_byte():
     """Signed files of which one byte before the signature has changed: of each the place of this byte, the file, where
     the page of the byte begins, and whether the byte is one of the code."""
     vectors = {vector.name: vector.data for vector in reversed(read_vectors(SEALED))}
-    for name, page, code in SMALL_FILES:
-        for place in range(code.stop):
-            yield "byte 0x%x of '%s'" % (place, name), vectors[name], place, page, place in code
+    for name, page in SMALL_FILES:
+        for place in places_of_one_byte(SMALL_LIMIT, page, SMALL_HEADERS, SMALL_CODE):
+            yield "byte 0x%x of '%s'" % (place, name), vectors[name], place, page, place in SMALL_CODE
     real = signed_image()
-    near = {start + offset for start in range(0, REAL_LIMIT, REAL_PAGE) for offset in (-1, 0, 1)}
-    for place in sorted({*range(0, REAL_LIMIT, REAL_STEP), *REAL_CODE, *near, REAL_LIMIT - 1} & set(range(REAL_LIMIT))):
+    for place in places_of_one_byte(REAL_LIMIT, REAL_PAGE, REAL_CODE):
         yield "byte 0x%x of the real slice" % place, real, place, REAL_PAGE, place in REAL_CODE
 
 def judge_bytes(report, oracle, program):
-    """Each byte before a signature is changed alone. Its page is reported, if no rule of the linked profile is broken
-    then, as is so of all bytes of code."""
+    """Bytes before a signature are changed, each alone. Its page is reported if no rule of the profiles before is
+    broken then, as is so of all bytes of code."""
     questions, wanted, code = [], [], 0
     for name, data, place, page, is_code in files_of_one_byte():
         changed = data[:place] + bytes((data[place] ^ 1,)) + data[place + 1:]
-        broken = oracle.first_linked_broken(oracle.File(changed)) or ("signature-hash", place - place % page)
+        broken = oracle.first_unambiguous_broken(oracle.File(changed)) or ("signature-hash", place - place % page)
         questions.append(for_verdict(name, changed, "sealed"))
         wanted.append((1, b"refused: %s at 0x%x\n" % (broken[0].encode(), broken[1])))
         code += is_code and broken[0] == "signature-hash"
     answers = program_answers(program, questions)
     differences = [Difference(*row) for row in zip(questions, wanted, answers) if row[1] != row[2]]
     report.agreeing("files with one other byte", differences, len(questions), "answers")
-    report.case("bytes of code, whose page is reported", code, len(SMALL_FILES) * 0x70 + len(REAL_CODE))
+    report.case("bytes of code, whose page is reported", code, len(SMALL_FILES) * len(SMALL_CODE) + len(REAL_CODE))
 
 def judge_addresses(report, oracle, program):
     files = {name: data for name, data, _ in read_real()}
@@ -361,20 +379,25 @@ def main():
     parser.add_argument("--oracle", default=ORACLE, help="another oracle")
     parser.add_argument("--program", help="another program")
     parser.add_argument("--first", action="store_true", help="mutants alone, up to the first difference")
+    parser.add_argument("--own", action="store_true", help="the vectors of the profile alone, up to the first difference")
     parser.add_argument("folders", nargs="*", help="folders of other files, which are judged and mutated as well")
     words = parser.parse_args()
 
     profile = words.profile
     program = words.program or (MACHO_CHECK if profile == "layout" else MACHO_VERIFY)
     oracle = load(words.oracle)
+    if words.own:
+        find_difference(oracle, profile)
+        return
     report = Report(words.keep)
     vectors = [vector for _, vectors in read_all_vectors(profile) for vector in vectors]
     real = [data for _, data, _ in read_real()]
+    accepted = [name not in REFUSED.get(profile, {}) for name, *_ in read_real()]
     if profile == "sealed":
         real.append(signed_image())
+        accepted.append(True)
     others = [data for folder in words.folders for _, data in read_folder(folder)]
     corpus = real + others + [vector.data for vector in vectors]
-    accepted = [True] * len(real)
     accepted += [oracle_answer(oracle, for_verdict("", data, profile))[0] == 0 for data in others]
     accepted += [says_more(vector, profile) for vector in vectors]
     weights = [weight(data, good, profile) for data, good in zip(corpus, accepted)]

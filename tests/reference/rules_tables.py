@@ -12,6 +12,8 @@ from __future__ import annotations
 from pathlib import Path
 from typing import Iterable, Iterator
 
+from support.programs import PROFILES
+
 from . import oracle
 
 # The structure of each bounded table, and the table. Those of one structure stand side by side.
@@ -24,8 +26,7 @@ def macro(name: str, rows: Iterable[str]) -> str:
 
 def rules_of_profiles() -> dict[str, list[str]]:
     """The names of the rules, each a heading of the page of its profile."""
-    return {profile.upper(): oracle.rows_of("^### `([a-z-]+)`$", profile)
-            for profile in ("layout", "strict", "linked", "sealed")}
+    return {profile.upper(): oracle.rows_of("^### `([a-z-]+)`$", profile) for profile in PROFILES}
 
 
 def rule_rows(names: Iterable[str]) -> Iterator[str]:

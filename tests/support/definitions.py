@@ -10,7 +10,8 @@ from .calling import TOP
 
 PAGE = TOP / "docs/audit/assumptions.md"
 # The groups of the page that a verdict reaches, with the crate of the verdict.
-VERDICTS = {"the layout": "macho_rules", "strict": "macho_strict", "linked": "macho_linked", "sealed": "macho_sealed"}
+VERDICTS = {"the layout": "macho_rules", "strict": "macho_strict", "linked": "macho_linked",
+            "unambiguous": "macho_unambiguous", "sealed": "macho_sealed"}
 # The line with which a definition begins. Fields of a record are indented further.
 BEGINS = re.compile(
     r"(?P<indent> *)(?:(?:abbrev|unfoldable|pub|private) )*(?P<kind>(?:record|data) )?(?P<name>[^\s:({]+)")

@@ -9,7 +9,7 @@ from pathlib import Path
 from .calling import TOP, Answer, call, shell
 
 # Each has the rules of those before it.
-PROFILES = ("layout", "strict", "linked", "sealed")
+PROFILES = tuple(row.split("\t")[1] for row in (TOP / "registry/profiles.tsv").read_text("ascii").splitlines()[1:])
 MACHO_CHECK = TOP / "build/programs/macho-check"
 MACHO_VERIFY = TOP / "build/programs/macho-verify"
 # What make builds and installs.
