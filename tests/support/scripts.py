@@ -20,8 +20,8 @@ from .programs import build_trials
 # What takes long comes first. Those of the library wait until it is built. The others run the programs, but
 # tests/floor, which runs one of its own, tests/dyld, tests/counts and tests/agreed, which run none, and tests/command,
 # which has stubs.
-PROGRAM_SCRIPTS = ("program floor refusals oracle strict linked sealed claims dyld sizes limits vectors counts agreed"
-                   .split())
+PROGRAM_SCRIPTS = ("program floor refusals oracle strict linked unambiguous other_readers sealed claims dyld sizes"
+                   " limits vectors counts agreed".split())
 LIBRARY_SCRIPTS = "cost rebuild library python tool map explain slots code exports examples rust go fuzz recipes install".split()
 SCRIPTS = ["command", *PROGRAM_SCRIPTS, *LIBRARY_SCRIPTS]
 CLOSING_LINE = re.compile(r"(\d+) passed, (\d+) failed")
