@@ -1,9 +1,9 @@
 -- The hash of a code directory. (kesvuot.h: struct kesvuot_cdhash)
 use Rattle.std.specs.Prelude.{ℕ, List, length, replicate}
 use Rattle.std.specs.Option.{option_map}
-use Rattle.macho_sealed.specs.Cdhashes.{cdhash}
-use Rattle.macho_sealed.specs.Digests.{bytes_of_digest, type_of_digest}
-use Rattle.macho_sealed.specs.declared.digest.Digest.{Digest}
+use Rattle.macho_seals.specs.Cdhashes.{cdhash}
+use Rattle.macho_seals.specs.Digests.{bytes_of_digest, type_of_digest}
+use Rattle.macho_seals.specs.declared.digest.Digest.{Digest}
 use Rattle.macho_c.specs.Layout.{begun_with}
 use Rattle.macho_c.specs.Status.{Answers}
 use Rattle.macho_c.specs.declared.cdhash.KesvuotCdhash.{KesvuotCdhash}

@@ -9,7 +9,7 @@ use crate::layout::write_front;
 use crate::status::answer;
 use macho_fields::{Bytes, Span};
 use macho_rows::parts::part_or_none;
-use macho_sealed::{Digest, cdhash_of};
+use macho_seals::{Digest, cdhash_of};
 
 // The size in bytes of the longest hash, which is by SHA-384.
 const MOST_BYTES: usize = 48;

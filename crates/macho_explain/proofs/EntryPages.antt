@@ -8,8 +8,8 @@ use Rattle.macho_fields.specs.declared.bytes.Order.TheVariants.{Big}
 use Rattle.macho_fields.specs.declared.header.machine.TheConstants as machine
 use Rattle.macho_fat.specs.Slices.{slice_of}
 use Rattle.macho_fat.specs.declared.slice.Slice.{Slice}
-use Rattle.macho_unambiguous.specs.Files.{entry_cputype, pages_end}
-use Rattle.macho_unambiguous.specs.Pages.{page_end, page_size}
+use Rattle.macho_readers.specs.Files.{entry_cputype, pages_end}
+use Rattle.macho_readers.specs.Pages.{page_end, page_size}
 use Rattle.macho_explain.specs.Entries.{HasEntryWith, HasTable}
 use Rattle.macho_explain.specs.Readers.{HasNoneWithin, IsOffItsPages}
 use Rattle.macho_explain.proofs.ListedEntries.{entry_is, same_entry}

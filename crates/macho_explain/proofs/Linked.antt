@@ -12,7 +12,7 @@ use Rattle.macho_fields.specs.declared.header.loader.TheConstants as loader
 use Rattle.macho_fields.specs.declared.load_command.Structure.TheVariants.{LinkeditDataCommand}
 use Rattle.macho_image.specs.Command.{first_with_cmd}
 use Rattle.macho_image.proofs.ReadParts.{length-part}
-use Rattle.macho_sealed.specs.Signature.{BreaksSignatureSlack}
+use Rattle.macho_seals.specs.Signature.{BreaksSignatureSlack}
 use Rattle.macho_tables.specs.DataInCode.{BadEntry, BreaksDataInCode}
 use Rattle.macho_tables.specs.DataTables.{InDataTable, InTableBytes}
 use Rattle.macho_tables.specs.Homes.{bytes_of_table}

@@ -11,9 +11,9 @@ use Rattle.macho_signature.specs.Signature.{bytes_at, IsDirectoryAt}
 use Rattle.macho_signature.specs.Superblobs.{blob_at, blob_count, is_directory_slot, AreGoodBlobs}
 use Rattle.macho_signature.specs.Signed.{page_of}
 use Rattle.macho_signature.proofs.Pages.{slot_has_page}
-use Rattle.macho_sealed.specs.Pages.{page_at}
-use Rattle.macho_sealed.specs.Specials.{BadSpecial, IsOtherSpecial, IsSpecialAt}
-use Rattle.macho_sealed.proofs.Blobs.{begins_past, blob_filled}
+use Rattle.macho_seals.specs.Pages.{page_at}
+use Rattle.macho_seals.specs.Specials.{BadSpecial, IsOtherSpecial, IsSpecialAt}
+use Rattle.macho_seals.proofs.Blobs.{begins_past, blob_filled}
 use Rattle.macho_signature.specs.declared.code_directory.CodeDirectory.{CodeDirectory}
 use Rattle.macho_explain.specs.Seals.{directories_before, DiffersAt, HasDiffering, HasOtherHash, HasOtherHashes, IsDirectoryOf, IsHashShown, IsOther, IsOtherShown, IsSpecialShown}
 use Rattle.macho_explain.specs.Signatures.{IsSignatureOf}

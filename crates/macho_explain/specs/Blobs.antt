@@ -2,7 +2,7 @@
 -- (cs_blobs.h: CS_SuperBlob, CS_BlobIndex, CS_CodeDirectory)
 use Rattle.std.specs.Prelude.{◌≡◌, ◌≢◌, ℕ, ◌<◌, ◌⊎◌, List, IsSomeAnd}
 use Rattle.macho_fields.specs.declared.header.loader.TheConstants as loader
-use Rattle.macho_sealed.specs.Signature.{RepeatedDirectory}
+use Rattle.macho_seals.specs.Signature.{RepeatedDirectory}
 use Rattle.macho_signature.specs.CodeDirectories.{code_directory, IsSoundDirectory}
 use Rattle.macho_signature.specs.Signature.{bytes_at}
 use Rattle.macho_signature.specs.Superblobs.{blob_count, entry_offset, AreGoodBlobs, HasNoSuperblob, IsBadBlob}

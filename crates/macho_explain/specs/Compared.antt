@@ -33,7 +33,7 @@ use Rattle.macho_symbols.specs.Nlist.{library_ordinal}
 use Rattle.macho_symbols.specs.Reloc.{relocation_at}
 use Rattle.macho_symbols.specs.declared.reloc.Relocation.{Relocation}
 use Rattle.macho_fields.specs.declared.header.reloc.TheConstants as reloc
-use Rattle.macho_unambiguous.specs.declared.files.TheConstants as files
+use Rattle.macho_readers.specs.declared.files.TheConstants as files
 use Rattle.macho_image.specs.Command.{first_with_cmd}
 use Rattle.macho_image.specs.Symbol.{dysymtab_at, symbol_at}
 use Rattle.macho_explain.specs.Commanded.{HasEarlier, HasSection, HasWalkEnd, IsGroupPast, field_shown, group_shown, obsolete_counts}

@@ -23,8 +23,8 @@ use Rattle.macho_spans.specs.Span.{Holds, Shares}
 use Rattle.macho_spans.specs.declared.span.Span.{Span}
 use Rattle.macho_tables.specs.Homes.{bytes_of_segment}
 use Rattle.macho_tables.specs.Segments.{is_writable}
-use Rattle.macho_unambiguous.specs.Entry.{is_entry}
-use Rattle.macho_unambiguous.specs.Order.{IsEager}
+use Rattle.macho_readers.specs.Entry.{is_entry}
+use Rattle.macho_readers.specs.Order.{IsEager}
 use Rattle.macho_fields.specs.declared.header.loader.TheConstants as loader
 use Rattle.macho_explain.specs.declared.section.SectionAt.{SectionAt}
 use Rattle.macho_explain.specs.declared.segment.SegmentAt.{SegmentAt}

@@ -10,12 +10,12 @@ use Rattle.macho_fields.specs.declared.bytes.Order.{Order}
 use Rattle.macho_fields.specs.declared.bytes.Order.TheVariants.{Big, Little}
 use Rattle.macho_fields.specs.declared.header.loader.TheConstants as loader
 use Rattle.macho_image.specs.Segment.{maxprot, segment_name}
-use Rattle.macho_unambiguous.specs.Files.{BeginsOffPage, SharesPage, is_judged, is_of_64_bits}
-use Rattle.macho_unambiguous.specs.Pages.{page_size, page_end}
-use Rattle.macho_unambiguous.specs.Segments.{ExceedsMaximum, HasUnevenMemory}
+use Rattle.macho_readers.specs.Files.{BeginsOffPage, SharesPage, is_judged, is_of_64_bits}
+use Rattle.macho_readers.specs.Pages.{page_size, page_end}
+use Rattle.macho_readers.specs.Segments.{ExceedsMaximum, HasUnevenMemory}
 use Rattle.macho_tables.specs.Segments.{is_writable}
-use Rattle.macho_unambiguous.specs.Entry.{is_entry}
-use Rattle.macho_unambiguous.specs.Order.{IsEager}
+use Rattle.macho_readers.specs.Entry.{is_entry}
+use Rattle.macho_readers.specs.Order.{IsEager}
 use Rattle.macho_explain.specs.Commanded.{HasEarlier}
 use Rattle.macho_explain.specs.Entries.{HasTable}
 use Rattle.macho_explain.specs.Explain.{all_loads, all_segment_loads, image_of, platform_shown, word_at, IsUncounted}

@@ -1,8 +1,8 @@
 -- What an explanation shows of the rules of the sealed profile. (docs/reference/explain.md; cs_blobs.h: CS_CodeDirectory)
 use Rattle.std.specs.Prelude.{◌≡◌, ℕ, zero, suc, ◌+◌, ◌≤◌, ◌<◌, ◌⊎◌, List, length, IsSomeAnd, Some, true, if◌then◌else◌}
 use Rattle.macho_fields.specs.Bytes.{bytes_of}
-use Rattle.macho_sealed.specs.Pages.{page_at, BadPage, IsOtherPage}
-use Rattle.macho_sealed.specs.Specials.{is_special_slot, BadSpecial, IsOtherSpecial}
+use Rattle.macho_seals.specs.Pages.{page_at, BadPage, IsOtherPage}
+use Rattle.macho_seals.specs.Specials.{is_special_slot, BadSpecial, IsOtherSpecial}
 use Rattle.macho_signature.specs.CodeDirectories.{code_directory, IsSound}
 use Rattle.macho_signature.specs.Signature.{bytes_at, IsDirectoryAt}
 use Rattle.macho_signature.specs.Superblobs.{blob_at, blob_count, blob_end, entry_offset, is_directory_slot, AreGoodBlobs}

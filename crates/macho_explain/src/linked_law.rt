@@ -3,7 +3,7 @@
 ghost use Rattle.macho_fields.specs.declared.rule.Rule.{Rule};
 ghost use Rattle.macho_chains.specs.Chains.{BadImports, BadStarts, InChains, UnknownLibrary};
 ghost use Rattle.macho_opcodes.specs.Images.{InBinds, InRebases, NoLibrary, NoName, NoSlot, TooLong, TooMany, Undecoded};
-ghost use Rattle.macho_sealed.specs.Signature.{BreaksSignatureSlack};
+ghost use Rattle.macho_seals.specs.Signature.{BreaksSignatureSlack};
 ghost use Rattle.macho_signature.specs.Signature.{BreaksSignatureDirectory, BreaksSignatureWhole};
 ghost use Rattle.macho_symbols.specs.Relocations.{BreaksRelocation};
 ghost use Rattle.macho_symbols.specs.Symbols.{BreaksSymbolIndirect, BreaksSymbolLibrary, BreaksSymbolValue};

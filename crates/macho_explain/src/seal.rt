@@ -4,8 +4,8 @@
 ghost use Rattle.std.specs.Prelude.{◌≡◌, ◌≢◌, ◌+◌, ◌≤◌, ◌<◌, ℕ, length, IfNone, IfSome, IsSome, IsSomeAnd, Some, true};
 ghost use Rattle.macho_fields.specs.Bytes.{bytes_of};
 ghost use Rattle.macho_fields.specs.declared.rule.Rule.{Rule};
-ghost use Rattle.macho_sealed.specs.Specials.{is_special_slot as is_special_slot_of, IsOtherSpecial, IsSpecialAt};
-ghost use Rattle.macho_sealed.specs.Pages.{page_at as page_of_directory, BadPage};
+ghost use Rattle.macho_seals.specs.Specials.{is_special_slot as is_special_slot_of, IsOtherSpecial, IsSpecialAt};
+ghost use Rattle.macho_seals.specs.Pages.{page_at as page_of_directory, BadPage};
 ghost use Rattle.macho_signature.specs.CodeDirectories.{HasSlots, IsSoundDirectory};
 ghost use Rattle.macho_signature.specs.Signature.{bytes_at, IsDirectoryAt};
 ghost use Rattle.macho_signature.specs.Superblobs.{blob_at, blob_count, blob_end, AreGoodBlobs};
@@ -22,9 +22,9 @@ use crate::sliced::Sliced;
 use crate::walk::{Sought, walk_to};
 use macho_fields::header::loader::LC_CODE_SIGNATURE;
 use macho_fields::{Bytes, Span};
-use macho_sealed::digest::has_hash;
-use macho_sealed::pages::{code_slot, page_at};
-use macho_sealed::specials::{has_special_hash, is_special_slot, special_slot};
+use macho_seals::digest::has_hash;
+use macho_seals::pages::{code_slot, page_at};
+use macho_seals::specials::{has_special_hash, is_special_slot, special_slot};
 use macho_signature::{Blob, CodeDirectory, Superblob};
 
 // How many code directories are looked at: no signature with another in each slot has more.

@@ -13,7 +13,7 @@ use crate::segment::{SegmentAt, SegmentWith, find_segment};
 use crate::sliced::Sliced;
 use macho_fields::Span;
 use macho_image::Image;
-use macho_unambiguous::section_alone::is_debug;
+use macho_readers::section_alone::is_debug;
 
 // What else is at the addresses of the section: a segment, if its own is not mapped; or otherwise an earlier section, or
 // a byte of the file that is not zero.

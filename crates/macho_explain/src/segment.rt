@@ -19,10 +19,10 @@ use macho_fields::Span;
 use macho_fields::header::loader::LC_CODE_SIGNATURE;
 use macho_fields::header::loader::mach_header_64::CPUTYPE;
 use macho_fields::header::vm_prot::{VM_PROT_EXECUTE, VM_PROT_READ, VM_PROT_WRITE};
+use macho_readers::pages::page_size;
 use macho_rows::cursor::START;
 use macho_rows::load::{Wanted, next_wanted};
 use macho_rows::segments::{KesvuotSegment, row_of};
-use macho_unambiguous::pages::page_size;
 
 // A segment: where its command begins, its index among the segments, and its fields.
 #[derive(Clone, Copy)]

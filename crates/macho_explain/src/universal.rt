@@ -6,7 +6,7 @@ ghost use Rattle.macho_fields.specs.declared.rule.Rule.{Rule};
 ghost use Rattle.macho_fat.specs.Slices.{slice_of};
 ghost use Rattle.macho_explain.specs.Explained.{ExplainsFile};
 ghost use Rattle.macho_explain.specs.Readers.{HasNoneWithin, HasOtherMagic, header_arch as header_arch_of, magic_of as magic_of_type, slice_word as slice_word_of};
-ghost use Rattle.macho_unambiguous.specs.Pages.{page_size as page_size_of, page_end};
+ghost use Rattle.macho_readers.specs.Pages.{page_size as page_size_of, page_end};
 
 use crate::conflict::Conflict;
 use crate::entries::{
@@ -20,9 +20,9 @@ use macho_fields::header::fat::fat_arch::CPUSUBTYPE as ENTRY_CPUSUBTYPE;
 use macho_fields::header::loader::mach_header_64::{CPUSUBTYPE, CPUTYPE};
 use macho_fields::header::loader::{MACH_HEADER_64_SIZE, MH_MAGIC, MH_MAGIC_64};
 use macho_fields::{Bytes, Order};
+use macho_readers::files::{LEAST_CLASS_COUNT, is_judged, is_of_64_bits};
+use macho_readers::pages::page_size;
 use macho_rows::parts::part_or_none;
-use macho_unambiguous::files::{LEAST_CLASS_COUNT, is_judged, is_of_64_bits};
-use macho_unambiguous::pages::page_size;
 
 // The offset of the magic number in the header of an image.
 const MAGIC: u64 = 0;

@@ -9,12 +9,12 @@ ghost use Rattle.macho_explain.specs.Explain.{IsUncounted, IsWalked, Meets, None
 use macho_fields::header::loader::build_version_command::PLATFORM;
 use macho_fields::header::loader::{LC_BUILD_VERSION, MACH_HEADER_64_SIZE};
 use macho_fields::{Bytes, Order};
+use macho_readers::entry::is_entry;
+use macho_readers::order::is_eager;
 use macho_rows::cursor::START;
 use macho_rows::load::{Load, Wanted, loads_library, next_wanted, version_min_platform};
 use macho_rows::sections::nsects_at;
 use macho_tables::kinds::share_kind;
-use macho_unambiguous::entry::is_entry;
-use macho_unambiguous::order::is_eager;
 
 // Which command is sought.
 #[derive(Clone, Copy)]

@@ -9,7 +9,7 @@ use Rattle.macho_fields.specs.declared.header.loader.TheConstants as loader
 use Rattle.macho_fields.specs.declared.rule.Rule.TheVariants as rule
 use Rattle.macho_fields.proofs.Decided.{not_not, le_or_not, zero_or_none}
 use Rattle.macho_linked.specs.Rules.{BreaksImage}
-use Rattle.macho_sealed.specs.Good.{IsWholeDirectory, IsWholeSignature}
+use Rattle.macho_seals.specs.Good.{IsWholeDirectory, IsWholeSignature}
 use Rattle.macho_signature.specs.CodeDirectories.{code_directory, size_of_hash, slots_of, HasName, HasEarlierHashes, IsSound}
 use Rattle.macho_signature.specs.Signature.{bytes_at, BadDirectory, AreGoodDirectories, PartialDirectory}
 use Rattle.macho_signature.specs.Signed.{IsSignature}

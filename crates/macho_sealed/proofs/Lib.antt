@@ -1,16 +1,5 @@
-pub mod Firsts
-pub mod Blobs
-pub mod Slacks
-pub mod TakenSlots
-pub mod PageSpans
-pub mod HashTests
 pub mod Good
 pub mod Ranks
 pub mod Places
-pub mod PlacedDirectories
-pub mod SharedPages
-pub mod SharedSpecials
-pub mod OtherHashes
 pub mod Verdicts
 pub mod Sealed
-pub mod CdhashLists

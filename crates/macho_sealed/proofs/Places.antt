@@ -16,11 +16,11 @@ use Rattle.macho_fields.specs.declared.rule.Rule.TheVariants as rule
 use Rattle.macho_image.specs.Command.{first_with_cmd}
 use Rattle.macho_image.proofs.ReadParts.{length-part}
 use Rattle.macho_rules.proofs.Verdicts.{unbroken_opened}
-use Rattle.macho_sealed.specs.Good.{IsWholeSignature}
+use Rattle.macho_seals.specs.Good.{IsWholeSignature}
 use Rattle.macho_linked.specs.Rules.{BreaksImage as BreaksLinked}
 use Rattle.macho_sealed.specs.Rules.{BreaksImage}
-use Rattle.macho_sealed.specs.Signature.{RepeatedDirectory, HasOtherHash, BadHash}
-use Rattle.macho_sealed.specs.Specials.{BadSpecial}
+use Rattle.macho_seals.specs.Signature.{RepeatedDirectory, HasOtherHash, BadHash}
+use Rattle.macho_seals.specs.Specials.{BadSpecial}
 use Rattle.macho_signature.specs.CodeDirectories.{code_directory, IsSound}
 use Rattle.macho_signature.specs.Signature.{bytes_at, InSignature}
 use Rattle.macho_signature.specs.Superblobs.{AreGoodBlobs}
@@ -31,9 +31,9 @@ use Rattle.macho_tables.specs.DataTables.{IsDataTable}
 use Rattle.macho_tables.specs.Homes.{bytes_of_table}
 use Rattle.macho_tables.proofs.DataTables.{data_table_inside}
 use Rattle.macho_tables.proofs.HeldSegments.{segment_inside}
-use Rattle.macho_sealed.proofs.Blobs.{blob_inside, blob_filled}
+use Rattle.macho_seals.proofs.Blobs.{blob_inside, blob_filled}
 use Rattle.macho_sealed.proofs.Good.{whole_signature}
-use Rattle.macho_sealed.proofs.PageSpans.{page_inside}
+use Rattle.macho_seals.proofs.PageSpans.{page_inside}
 use Rattle.macho_sealed.proofs.Ranks.{none_before, first_kept}
 
 -- an image has one signature

@@ -9,7 +9,7 @@ use Rattle.macho_fields.specs.declared.rule.Rule.TheVariants as rule
 use Rattle.macho_rules.specs.Profile.{NoFileRule}
 use Rattle.macho_rules.proofs.Profiles as profiles
 use Rattle.macho_sealed.specs.Rules.{BreaksImage, IsFirstSealedBroken}
-use Rattle.macho_sealed.specs.Signature.{BreaksSignatureMissing}
+use Rattle.macho_seals.specs.Signature.{BreaksSignatureMissing}
 
 -- from the first to the last
 among : (image : List ℕ) (r : Rule) (place : ℕ) → BreaksImage image r place → (rank rule.SignatureMissing ≤ rank r) × (rank r ≤ rank rule.SignatureHash) × (profile_of r ≡ Sealed)

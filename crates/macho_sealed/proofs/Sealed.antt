@@ -16,12 +16,12 @@ use Rattle.macho_fields.specs.declared.rule.Rule.TheVariants as rule
 use Rattle.macho_fields.proofs.Decided.{not_not, both_or_not, le_or_not}
 use Rattle.macho_image.specs.Command.{first_with_cmd}
 use Rattle.macho_linked.specs.Rules.{BreaksImage as BreaksLinked, IsLinkedUnbroken}
-use Rattle.macho_sealed.specs.Executable.{IsExecutableIn}
-use Rattle.macho_sealed.specs.Good.{IsWholeSignature}
-use Rattle.macho_sealed.specs.Pages.{bytes_in, page_at, code_slot}
+use Rattle.macho_seals.specs.Executable.{IsExecutableIn}
+use Rattle.macho_seals.specs.Good.{IsWholeSignature}
+use Rattle.macho_seals.specs.Pages.{bytes_in, page_at, code_slot}
 use Rattle.macho_sealed.specs.Rules.{BreaksImage, IsSealedUnbroken}
 use Rattle.macho_sealed.specs.Sealed.{Seals, IsSeal, IsSealed, AreSealed}
-use Rattle.macho_sealed.specs.Signature.{RepeatedDirectory, NonZeroSlack, HasOtherHash, BadHash}
+use Rattle.macho_seals.specs.Signature.{RepeatedDirectory, NonZeroSlack, HasOtherHash, BadHash}
 use Rattle.macho_signature.specs.CodeDirectories.{code_directory, slots_of, IsSound}
 use Rattle.macho_signature.specs.Signature.{IsDirectoryAt, bytes_at}
 use Rattle.macho_signature.specs.Signed.{IsSignature, page_of}
@@ -37,9 +37,9 @@ use Rattle.macho_tables.specs.DataTables.{IsDataTable}
 use Rattle.macho_tables.specs.Homes.{bytes_of_table}
 use Rattle.macho_tables.proofs.DataTables.{data_table_inside}
 use Rattle.macho_sealed.proofs.Good.{whole_signature}
-use Rattle.macho_sealed.proofs.HashTests.{has_hash_or_not, special_or_not}
-use Rattle.macho_sealed.proofs.PageSpans.{page_inside, page_holds, page_only}
-use Rattle.macho_sealed.proofs.TakenSlots.{none_repeated}
+use Rattle.macho_seals.proofs.HashTests.{has_hash_or_not, special_or_not}
+use Rattle.macho_seals.proofs.PageSpans.{page_inside, page_holds, page_only}
+use Rattle.macho_seals.proofs.TakenSlots.{none_repeated}
 use Rattle.macho_sealed.proofs.Verdicts.{of_images}
 
 -- whether one of the first blobs, so many, has an offset

@@ -1,13 +1,3 @@
-pub mod Digests
-pub mod Pages
-pub mod Specials
-pub mod Executable
-pub mod Signature
-pub mod Slack
-pub mod Slots
-pub mod Good
-pub mod Directories
-pub mod Cdhashes
 pub mod Rules
 pub mod Sealed
 pub mod Verdict

@@ -6,7 +6,7 @@ use Rattle.macho_fields.specs.declared.rule.Break.{Break}
 use Rattle.macho_fields.specs.declared.rule.Rule.{Rule}
 use Rattle.macho_fields.specs.declared.rule.Rule.TheVariants as rule
 use Rattle.macho_rules.specs.Profile.{NoFileRule, AddedIn}
-use Rattle.macho_sealed.specs.Signature.{BreaksSignatureMissing, BreaksSignatureExecutable, BreaksDirectoryRepeated, BreaksSignatureSlack, BreaksSignatureHash}
+use Rattle.macho_seals.specs.Signature.{BreaksSignatureMissing, BreaksSignatureExecutable, BreaksDirectoryRepeated, BreaksSignatureSlack, BreaksSignatureHash}
 
 -- the image breaks the rule at the place
 abbrev pub BreaksImage : List ℕ → Rule → ℕ → Type 0

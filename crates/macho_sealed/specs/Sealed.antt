@@ -6,11 +6,11 @@ use Rattle.macho_fields.specs.NonZero.{IsNonZero}
 use Rattle.macho_fields.specs.Segment.{all_segments, vmaddr, fileoff, RunsAt}
 use Rattle.macho_fields.specs.Universal.{OfEachImage}
 use Rattle.macho_fields.specs.declared.header.loader.TheConstants as loader
-use Rattle.macho_sealed.specs.Digests.{HasHash}
-use Rattle.macho_sealed.specs.Pages.{bytes_in, page_at, code_slot}
+use Rattle.macho_seals.specs.Digests.{HasHash}
+use Rattle.macho_seals.specs.Pages.{bytes_in, page_at, code_slot}
 use Rattle.macho_sealed.specs.Rules.{IsSealedUnbroken}
-use Rattle.macho_sealed.specs.Signature.{AreApart}
-use Rattle.macho_sealed.specs.Specials.{IsSpecialAt, HasSpecialHash}
+use Rattle.macho_seals.specs.Signature.{AreApart}
+use Rattle.macho_seals.specs.Specials.{IsSpecialAt, HasSpecialHash}
 use Rattle.macho_signature.specs.CodeDirectories.{code_directory}
 use Rattle.macho_signature.specs.Signature.{IsDirectoryAt, bytes_at}
 use Rattle.macho_signature.specs.Signed.{IsSignature, page_of}

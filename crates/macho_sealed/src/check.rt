@@ -5,20 +5,20 @@ ghost use Rattle.macho_fields.specs.Field.{part};
 ghost use Rattle.macho_fields.specs.Layers.{NothingBreaks, Decides};
 ghost use Rattle.macho_fields.specs.Rules.{BreaksImage as Breaks};
 ghost use Rattle.macho_linked.specs.Rules.{BreaksImage as BreaksLinked};
-ghost use Rattle.macho_sealed.specs.Good.{IsWholeSignature};
+ghost use Rattle.macho_seals.specs.Good.{IsWholeSignature};
 ghost use Rattle.macho_sealed.specs.Rules.{BreaksImage};
 ghost use Rattle.macho_spans.specs.Span.{end_of};
 ghost use Rattle.macho_tables.specs.DataTables.{IsDataTable};
 
-use crate::executable::first_executable;
-use crate::hashes::first_other_hash;
 use crate::profile::Sealed;
-use crate::repeated::first_repeated;
-use crate::slack::first_slack;
 use macho_fields::header::loader::LC_CODE_SIGNATURE;
 use macho_fields::{Break, Rule, Span};
 use macho_image::Image;
 use macho_rules::ProfileRules;
+use macho_seals::executable::first_executable;
+use macho_seals::hashes::first_other_hash;
+use macho_seals::repeated::first_repeated;
+use macho_seals::slack::first_slack;
 use macho_tables::data_table::data_table;
 use macho_tables::place::place_from;
 

@@ -6,22 +6,9 @@
 //! It does not say who signed: a signature by a certificate is bytes here. It says nothing of files beside the image,
 //! as `Info.plist` and resources, and nothing of what entitlements mean.
 
-pub mod cdhash;
 mod check;
-pub mod digest;
-mod directories;
-mod executable;
-mod hashes;
 pub mod law;
-pub mod pages;
 mod profile;
-mod repeated;
-mod signature;
-mod slack;
-mod slots;
-pub mod specials;
 pub mod verdict;
 
-pub use cdhash::{Cdhashes, cdhash_of};
-pub use digest::Digest;
 pub use verdict::verify_sealed;

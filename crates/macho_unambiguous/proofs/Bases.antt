@@ -9,8 +9,8 @@ use Rattle.macho_fields.specs.Segment.{all_segments, vmaddr, vmsize, fileoff, fi
 use Rattle.macho_fields.specs.declared.rule.Rule.TheVariants as rule
 use Rattle.macho_strict.specs.Rules.{BreaksStrictImage, HoldsHeaders, IsByteOfSegment}
 use Rattle.macho_tables.specs.Segments.{IsText}
-use Rattle.macho_unambiguous.specs.Models.{IsBaseOf, HasOneBase}
-use Rattle.macho_unambiguous.specs.Segments.{BreaksSegmentName}
+use Rattle.macho_readers.specs.Models.{IsBaseOf, HasOneBase}
+use Rattle.macho_readers.specs.Segments.{BreaksSegmentName}
 use Rattle.macho_unambiguous.proofs.Cases.{same_some, ended}
 use Rattle.macho_unambiguous.proofs.FileParts.{one_part}
 

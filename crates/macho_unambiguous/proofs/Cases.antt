@@ -6,7 +6,7 @@ use Rattle.macho_fields.specs.Field.{number}
 use Rattle.macho_fields.specs.Universal.{IsImage}
 use Rattle.macho_fields.specs.declared.bytes.Order.TheVariants.{Little}
 use Rattle.macho_fields.specs.declared.header.loader.TheConstants as loader
-use Rattle.macho_unambiguous.specs.Models.{Agree, IsEndWith}
+use Rattle.macho_readers.specs.Models.{Agree, IsEndWith}
 
 -- what is not another value is this one
 

@@ -12,8 +12,8 @@ use Rattle.macho_fields.proofs.Lists.{contains_later}
 use Rattle.macho_fields.specs.Image.{command_cmd, commands_of}
 use Rattle.macho_fields.specs.LoadCommands.{LoadCommand, load_command_of, structure_of, unique_commands, repeatable_commands}
 use Rattle.macho_fields.specs.declared.header.loader.TheConstants as loader
-use Rattle.macho_unambiguous.specs.CommandModels.{Meaning, meaning_of, unmarked, IsMeaningOf, HasOneMeaning}
-use Rattle.macho_unambiguous.specs.Commands.{is_known, BreaksCommandKnown}
+use Rattle.macho_readers.specs.CommandModels.{Meaning, meaning_of, unmarked, IsMeaningOf, HasOneMeaning}
+use Rattle.macho_readers.specs.Commands.{is_known, BreaksCommandKnown}
 
 -- The known commands, in a list
 

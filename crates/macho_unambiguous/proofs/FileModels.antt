@@ -6,8 +6,8 @@ use Rattle.macho_fields.specs.Field.{number, field}
 use Rattle.macho_fields.specs.Universal.{IsUniversal, IsImage, entry_count, entry_place}
 use Rattle.macho_fields.specs.declared.bytes.Order.TheVariants.{Big, Little}
 use Rattle.macho_fields.specs.declared.header.fat.TheConstants as fat
-use Rattle.macho_unambiguous.specs.Files.{BreaksFatCount, BreaksFatHeader, HasOtherHeader, IsOtherEntry, entry_bytes, entry_cputype, entry_cpusubtype, header_order, is_wide, is_judged, is_of_64_bits}
-use Rattle.macho_unambiguous.specs.Models.{FileKind, UniversalFile, IsKindOfFile, HasOneKindOfFile, IsSubtypeOf, HasOneSubtype, TakeSameSlice, HasOneSetOfSlices}
+use Rattle.macho_readers.specs.Files.{BreaksFatCount, BreaksFatHeader, HasOtherHeader, IsOtherEntry, entry_bytes, entry_cputype, entry_cpusubtype, header_order, is_wide, is_judged, is_of_64_bits}
+use Rattle.macho_readers.specs.Models.{FileKind, UniversalFile, IsKindOfFile, HasOneKindOfFile, IsSubtypeOf, HasOneSubtype, TakeSameSlice, HasOneSetOfSlices}
 use Rattle.macho_unambiguous.proofs.Cases.{same_some, same_bool, is_image}
 
 -- Its kind

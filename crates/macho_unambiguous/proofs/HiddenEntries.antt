@@ -17,7 +17,7 @@ use Rattle.macho_fields.proofs.Slices.{each_entry, some_entry, some_slice}
 use Rattle.macho_fields.proofs.Sound.{unbroken_is_sound}
 use Rattle.macho_strict.specs.First.{IsStrictlyUnbroken}
 use Rattle.macho_strict.proofs.Accounted.{unbroken_is_accounted}
-use Rattle.macho_unambiguous.specs.HiddenEntries.{IsHiddenEntry, IsCountedSlice, IsSliceOfLipo, HasNoHiddenSlice}
+use Rattle.macho_readers.specs.HiddenEntries.{IsHiddenEntry, IsCountedSlice, IsSliceOfLipo, HasNoHiddenSlice}
 
 -- the first byte of a number of four
 module _ (a b c d : ℕ) (fits_a : a < 256) (fits_b : b < 256) (fits_c : c < 256) (fits_d : d < 256) where

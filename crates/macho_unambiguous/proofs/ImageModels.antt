@@ -20,11 +20,11 @@ use Rattle.macho_image.specs.Segment.{maxprot, segment_name, section_name, secti
 use Rattle.macho_rules.proofs.Judged.{opened_commands}
 use Rattle.macho_rules.proofs.Searches.{one_of}
 use Rattle.macho_rules.proofs.Verdicts.{unbroken_opened}
-use Rattle.macho_unambiguous.specs.Commands.{is_single, platform_of, BreaksCommandOnce}
-use Rattle.macho_unambiguous.specs.Entry.{is_entry, data_entries, HasByteOf, IsFilePlace, IsDataAt, SaysEntry, HasBadEntry, BreaksEntryOne}
-use Rattle.macho_unambiguous.specs.Models.{IsProtectionOf, HasOneProtection, IsSegmentOfName, HasOneSegmentOfName, HasOneCommandOfKind, HasOnePlatform, HasNames, HasNameInSegment, IsSectionOfNames, HasOneSectionOfNames, IsEntryCommand, IsEntryPlace, HasOneEntry}
-use Rattle.macho_unambiguous.specs.Sections.{segment_name_of, HasBadName, BreaksSectionName}
-use Rattle.macho_unambiguous.specs.Segments.{BreaksSegmentProtection, BreaksSegmentName}
+use Rattle.macho_readers.specs.Commands.{is_single, platform_of, BreaksCommandOnce}
+use Rattle.macho_readers.specs.Entry.{is_entry, data_entries, HasByteOf, IsFilePlace, IsDataAt, SaysEntry, HasBadEntry, BreaksEntryOne}
+use Rattle.macho_readers.specs.Models.{IsProtectionOf, HasOneProtection, IsSegmentOfName, HasOneSegmentOfName, HasOneCommandOfKind, HasOnePlatform, HasNames, HasNameInSegment, IsSectionOfNames, HasOneSectionOfNames, IsEntryCommand, IsEntryPlace, HasOneEntry}
+use Rattle.macho_readers.specs.Sections.{segment_name_of, HasBadName, BreaksSectionName}
+use Rattle.macho_readers.specs.Segments.{BreaksSegmentProtection, BreaksSegmentName}
 use Rattle.macho_unambiguous.proofs.Cases.{same_number, same_list, one_place, one_end, ended}
 
 -- Protection

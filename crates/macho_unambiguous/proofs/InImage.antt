@@ -15,8 +15,8 @@ use Rattle.macho_rules.proofs.Judged.{opened_facts, opened_commands}
 use Rattle.macho_rules.proofs.Searches.{one_of}
 use Rattle.macho_rules.proofs.Verdicts.{unbroken_opened}
 use Rattle.macho_unambiguous.specs.Rules.{BreaksImage}
-use Rattle.macho_unambiguous.specs.Sections.{AtSection}
-use Rattle.macho_unambiguous.proofs.NamedSections.{pair_inside}
+use Rattle.macho_readers.specs.Sections.{AtSection}
+use Rattle.macho_readers.proofs.NamedSections.{pair_inside}
 
 module _ (image : List ℕ) (none : NothingBreaks (Breaks image None)) where
   opened : IsOpened image

@@ -28,17 +28,17 @@ use Rattle.macho_rules.proofs.Verdicts.{file_keeps}
 use Rattle.macho_strict.specs.First.{IsStrictlyUnbroken}
 use Rattle.macho_strict.specs.Rules.{BreaksStrictFile, BreaksStrictImage}
 use Rattle.macho_strict.proofs.Accounted.{unbroken_is_accounted}
-use Rattle.macho_unambiguous.specs.Commands.{is_known, BreaksBytesEncrypted, BreaksCommandKnown}
-use Rattle.macho_unambiguous.specs.Files.{BreaksFatPage, entry_bytes, entry_cputype, pages_end}
-use Rattle.macho_unambiguous.specs.PageModels.{Shown, byte_of, page_floor, page_ceiling, page_byte, SaysEncrypted, IsDecrypted, ShowsSource, ShowsPage, IsInSegments, IsInPagesOf, HasOneMap, HaveOneMap}
-use Rattle.macho_unambiguous.specs.Pages.{page_size, page_end}
-use Rattle.macho_unambiguous.specs.Segments.{BreaksSegmentPage, BreaksSegmentProtection}
+use Rattle.macho_readers.specs.Commands.{is_known, BreaksBytesEncrypted, BreaksCommandKnown}
+use Rattle.macho_readers.specs.Files.{BreaksFatPage, entry_bytes, entry_cputype, pages_end}
+use Rattle.macho_readers.specs.PageModels.{Shown, byte_of, page_floor, page_ceiling, page_byte, SaysEncrypted, IsDecrypted, ShowsSource, ShowsPage, IsInSegments, IsInPagesOf, HasOneMap, HaveOneMap}
+use Rattle.macho_readers.specs.Pages.{page_size, page_end}
+use Rattle.macho_readers.specs.Segments.{BreaksSegmentPage, BreaksSegmentProtection}
 use Rattle.macho_unambiguous.proofs.Cases.{same_number}
 use Rattle.macho_unambiguous.proofs.ImageModels.{one_protection}
 use Rattle.macho_unambiguous.proofs.Rounding.{ceiling_above, ceiling_from, ceiling_last, ceiling_none, ceiling_rises, floor_even, sum_even, zero_even}
 use Rattle.macho_unambiguous.proofs.SegmentPages.{even_bytes, even_memory, inside, one_page, shorter, supplied_page, zero_padding}
 use Rattle.macho_unambiguous.proofs.SliceBytes.{one_slice}
-use Rattle.macho_unambiguous.proofs.SlicePages.{image_long}
+use Rattle.macho_readers.proofs.SlicePages.{image_long}
 
 -- A slice of a file
 

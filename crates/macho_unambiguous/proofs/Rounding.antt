@@ -2,9 +2,9 @@
 use Rattle.std.proofs.Common.{◌≡◌, ℕ, ◌+◌, ◌-◌, ◌%◌, ◌≤◌, ◌<◌, ◌==◌, arith, inl, inr}
 use Rattle.std.proofs.lemmas.Bool.{cases_Bool}
 use Rattle.macho_fields.specs.declared.header.machine.TheConstants as machine
-use Rattle.macho_unambiguous.specs.PageModels.{page_floor, page_ceiling}
-use Rattle.macho_unambiguous.specs.Pages.{page_size, page_end}
-use Rattle.macho_unambiguous.specs.declared.pages.TheConstants as pages
+use Rattle.macho_readers.specs.PageModels.{page_floor, page_ceiling}
+use Rattle.macho_readers.specs.Pages.{page_size, page_end}
+use Rattle.macho_readers.specs.declared.pages.TheConstants as pages
 
 module _ (cputype : ℕ) where
   abbrev size : ℕ

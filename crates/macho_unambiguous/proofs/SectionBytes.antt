@@ -11,11 +11,11 @@ use Rattle.macho_fields.specs.Segment.{all_segments, vmsize, section_address, se
 use Rattle.macho_image.specs.Segment.{sections_of}
 use Rattle.macho_rules.proofs.Searches.{any_of, one_of}
 use Rattle.macho_rules.proofs.Verdicts.{unbroken_image_sound}
-use Rattle.macho_unambiguous.specs.PageModels.{byte_of}
-use Rattle.macho_unambiguous.specs.SectionBytes.{byte_by_offset, IsByteOfSection, HasOneContent}
-use Rattle.macho_unambiguous.specs.Sections.{HasAddress, IsAmbiguous, IsDebug, BreaksSectionAlone}
+use Rattle.macho_readers.specs.PageModels.{byte_of}
+use Rattle.macho_readers.specs.SectionBytes.{byte_by_offset, IsByteOfSection, HasOneContent}
+use Rattle.macho_readers.specs.Sections.{HasAddress, IsAmbiguous, IsDebug, BreaksSectionAlone}
 use Rattle.macho_unambiguous.proofs.Cases.{same_number}
-use Rattle.macho_unambiguous.proofs.NamedSections.{of_segments}
+use Rattle.macho_readers.proofs.NamedSections.{of_segments}
 use Rattle.macho_unambiguous.proofs.SectionsAlone.{not_ambiguous}
 
 zero_source : (image : List ℕ) (s : Source) → ((place : ℕ) → s ≡ File place → ¬ IsNonZero image place) → byte_of image s ≡ 0

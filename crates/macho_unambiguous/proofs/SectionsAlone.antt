@@ -5,8 +5,8 @@ use Rattle.macho_fields.specs.Image.{commands_of}
 use Rattle.macho_fields.specs.Segment.{all_segments, vmsize, section_size, Supplies}
 use Rattle.macho_image.specs.Segment.{sections_of}
 use Rattle.macho_rules.proofs.Searches.{any_of, one_of}
-use Rattle.macho_unambiguous.specs.Models.{IsSectionAt, IsLookedFor, HasOneSectionAt}
-use Rattle.macho_unambiguous.specs.Sections.{IsDebug, HasAddress, IsAmbiguous, BreaksSectionAlone}
+use Rattle.macho_readers.specs.Models.{IsSectionAt, IsLookedFor, HasOneSectionAt}
+use Rattle.macho_readers.specs.Sections.{IsDebug, HasAddress, IsAmbiguous, BreaksSectionAlone}
 
 -- a section that readers look for is not ambiguous
 pub not_ambiguous : (image : List ℕ) → ((place : ℕ) → ¬ BreaksSectionAlone image place) → (s : ℕ × ℕ) → Contains (sections_of image (commands_of image)) s → 0 < section_size image s.1 → ¬ IsDebug image s

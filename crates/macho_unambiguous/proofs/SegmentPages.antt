@@ -12,9 +12,9 @@ use Rattle.macho_fields.specs.declared.rule.Rule.TheVariants as rule
 use Rattle.macho_rules.proofs.Judged.{opened_commands}
 use Rattle.macho_rules.proofs.Verdicts.{unbroken_opened, unbroken_image_sound}
 use Rattle.macho_strict.specs.Rules.{BreaksStrictImage, IsByteOfSegment}
-use Rattle.macho_unambiguous.specs.PageModels.{page_ceiling, HasPageOf}
-use Rattle.macho_unambiguous.specs.Pages.{page_size}
-use Rattle.macho_unambiguous.specs.Segments.{BreaksSegmentPage}
+use Rattle.macho_readers.specs.PageModels.{page_ceiling, HasPageOf}
+use Rattle.macho_readers.specs.Pages.{page_size}
+use Rattle.macho_readers.specs.Segments.{BreaksSegmentPage}
 use Rattle.macho_unambiguous.proofs.Cases.{same_number}
 use Rattle.macho_unambiguous.proofs.FileParts.{one_part}
 use Rattle.macho_unambiguous.proofs.Rounding.{ceiling_above, ceiling_from, ceiling_least, floor_even}

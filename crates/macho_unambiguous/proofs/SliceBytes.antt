@@ -4,11 +4,11 @@ use Rattle.std.proofs.lemmas.Bool.{cases_eq, cases_order}
 use Rattle.macho_fields.specs.Rules.{BreaksFile}
 use Rattle.macho_fields.specs.Universal.{IsUniversal, HasPlace, entry_count, entry_place, entry_slice}
 use Rattle.macho_fields.specs.declared.rule.Rule.TheVariants as rule
-use Rattle.macho_unambiguous.specs.Files.{BreaksFatPage, entry_cputype}
-use Rattle.macho_unambiguous.specs.Models.{IsInPages, IsSliceOfByte, HasOneSliceOfByte}
-use Rattle.macho_unambiguous.specs.Pages.{page_size}
+use Rattle.macho_readers.specs.Files.{BreaksFatPage, entry_cputype}
+use Rattle.macho_readers.specs.Models.{IsInPages, IsSliceOfByte, HasOneSliceOfByte}
+use Rattle.macho_readers.specs.Pages.{page_size}
 use Rattle.macho_unambiguous.proofs.Rounding.{floor_even}
-use Rattle.macho_unambiguous.proofs.SlicePages.{image_long}
+use Rattle.macho_readers.proofs.SlicePages.{image_long}
 
 module _ (file : List ℕ) (overlap : (place : ℕ) → ¬ BreaksFile file rule.FatOverlap place) (page : (place : ℕ) → ¬ BreaksFatPage file place) (universal : IsUniversal file) where
   abbrev start : ℕ → ℕ

@@ -15,7 +15,7 @@ use Rattle.macho_unambiguous.proofs.CommandMeanings.{one_meaning}
 use Rattle.macho_unambiguous.proofs.FileModels.{one_kind as one_kind_of_file, one_set, one_subtype}
 use Rattle.macho_unambiguous.proofs.HiddenEntries.{no_hidden_slice}
 use Rattle.macho_unambiguous.proofs.ImageModels.{one_entry, one_kind, one_platform, one_protection, one_section, one_segment}
-use Rattle.macho_unambiguous.proofs.Numbers.{one_number, one_of_number, one_ordinal, one_start}
+use Rattle.macho_readers.proofs.Numbers.{one_number, one_of_number, one_ordinal, one_start}
 use Rattle.macho_unambiguous.proofs.PageMaps.{one_maps}
 use Rattle.macho_unambiguous.proofs.SectionBytes.{one_content}
 use Rattle.macho_unambiguous.proofs.SectionsAlone.{one_at}

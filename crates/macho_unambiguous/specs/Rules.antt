@@ -6,12 +6,12 @@ use Rattle.macho_fields.specs.declared.rule.Break.{Break}
 use Rattle.macho_fields.specs.declared.rule.Rule.{Rule}
 use Rattle.macho_fields.specs.declared.rule.Rule.TheVariants as rule
 use Rattle.macho_rules.specs.Profile.{AddedIn}
-use Rattle.macho_unambiguous.specs.Commands.{BreaksBytesEncrypted, BreaksCommandKnown, BreaksCommandOnce}
-use Rattle.macho_unambiguous.specs.Entry.{BreaksEntryOne}
-use Rattle.macho_unambiguous.specs.Files.{BreaksFatCount, BreaksFatHeader, BreaksFatPage}
-use Rattle.macho_unambiguous.specs.Order.{BreaksNumberShift}
-use Rattle.macho_unambiguous.specs.Sections.{BreaksSectionName, BreaksSectionAlone}
-use Rattle.macho_unambiguous.specs.Segments.{BreaksSegmentName, BreaksSegmentPage, BreaksSegmentProtection}
+use Rattle.macho_readers.specs.Commands.{BreaksBytesEncrypted, BreaksCommandKnown, BreaksCommandOnce}
+use Rattle.macho_readers.specs.Entry.{BreaksEntryOne}
+use Rattle.macho_readers.specs.Files.{BreaksFatCount, BreaksFatHeader, BreaksFatPage}
+use Rattle.macho_readers.specs.Order.{BreaksNumberShift}
+use Rattle.macho_readers.specs.Sections.{BreaksSectionName, BreaksSectionAlone}
+use Rattle.macho_readers.specs.Segments.{BreaksSegmentName, BreaksSegmentPage, BreaksSegmentProtection}
 
 -- the file itself breaks the rule at the place
 abbrev pub BreaksFile : List ℕ → Rule → ℕ → Type 0

@@ -2,12 +2,12 @@
 use Rattle.std.specs.Prelude.{ℕ, List}
 use Rattle.macho_fields.specs.Universal.{OfEachImage}
 use Rattle.macho_linked.specs.Linked.{KeepsLinked}
-use Rattle.macho_unambiguous.specs.CommandModels.{HasOneMeaning}
-use Rattle.macho_unambiguous.specs.HiddenEntries.{HasNoHiddenSlice}
-use Rattle.macho_unambiguous.specs.Models.{HasOneKindOfFile, HasOneSubtype, HasOneSetOfSlices, HasOneSliceOfByte, HasOneProtection, HasOneSegmentOfName, HasOneBase, HasOneSectionOfNames, HasOneSectionAt, HasOneCommandOfKind, HasOnePlatform, HasOneNumberOfSegment, HasOneSegmentOfNumber, HasOneStartOfSegment, HasOneOrdinal, HasOneEntry}
-use Rattle.macho_unambiguous.specs.PageModels.{HaveOneMap}
+use Rattle.macho_readers.specs.CommandModels.{HasOneMeaning}
+use Rattle.macho_readers.specs.HiddenEntries.{HasNoHiddenSlice}
+use Rattle.macho_readers.specs.Models.{HasOneKindOfFile, HasOneSubtype, HasOneSetOfSlices, HasOneSliceOfByte, HasOneProtection, HasOneSegmentOfName, HasOneBase, HasOneSectionOfNames, HasOneSectionAt, HasOneCommandOfKind, HasOnePlatform, HasOneNumberOfSegment, HasOneSegmentOfNumber, HasOneStartOfSegment, HasOneOrdinal, HasOneEntry}
+use Rattle.macho_readers.specs.PageModels.{HaveOneMap}
 use Rattle.macho_unambiguous.specs.Rules.{IsUnambiguousUnbroken}
-use Rattle.macho_unambiguous.specs.SectionBytes.{HasOneContent}
+use Rattle.macho_readers.specs.SectionBytes.{HasOneContent}
 
 -- of an image: any two readers that answer give the same answer
 pub record IsReadAlike (image : List ℕ) : Type 0 where

@@ -11,9 +11,9 @@ use Rattle.macho_rules.specs.Profile.{TakesInSlice}
 use Rattle.macho_rules.specs.declared.refusal.Refusal.{Refusal}
 use Rattle.macho_rules.specs.declared.refusal.Refusal.TheVariants as refusal
 use Rattle.macho_strict.specs.First.{IsStrictlyUnbroken}
-use Rattle.macho_unambiguous.specs.Commands.{HasSeveralPlatforms}
+use Rattle.macho_readers.specs.Commands.{HasSeveralPlatforms}
 use Rattle.macho_unambiguous.specs.Rules.{IsFirstUnambiguousBroken}
-use Rattle.macho_unambiguous.specs.declared.names.TheConstants.{FEW_NAMES}
+use Rattle.macho_readers.specs.declared.names.TheConstants.{FEW_NAMES}
 
 -- an image has many sections or many segments, or versions of several platforms
 abbrev pub TakesMemory : List ℕ → Type 0

@@ -12,18 +12,18 @@ ghost use Rattle.macho_rules.specs.Verdict.{IsRefusalOf};
 ghost use Rattle.macho_unambiguous.specs.Rules.{BreaksFile, BreaksImage};
 ghost use Rattle.macho_unambiguous.specs.Verdict.{TakesMemory};
 
-use crate::commands::{bytes_encrypted, command_known};
-use crate::entry::entry_one;
-use crate::files::{fat_count, fat_header};
-use crate::once::command_once;
-use crate::order::number_shift;
 use crate::profile::Unambiguous;
-use crate::section_alone::section_alone;
-use crate::sections::section_name;
-use crate::segments::{segment_name, segment_page, segment_protection};
-use crate::slice_pages::fat_page;
 use macho_fields::{Break, Rule};
 use macho_image::Image;
+use macho_readers::commands::{bytes_encrypted, command_known};
+use macho_readers::entry::entry_one;
+use macho_readers::files::{fat_count, fat_header};
+use macho_readers::once::command_once;
+use macho_readers::order::number_shift;
+use macho_readers::section_alone::section_alone;
+use macho_readers::sections::section_name;
+use macho_readers::segments::{segment_name, segment_page, segment_protection};
+use macho_readers::slice_pages::fat_page;
 use macho_rules::{ProfileRules, Refusal, Verified};
 use std::alloc::Global;
 

@@ -5,20 +5,8 @@
 //! It does not say so of names of symbols, of exports and binds, and of what a code signature says.
 
 mod check;
-pub mod commands;
-pub mod entry;
-pub mod files;
-pub mod fixups;
 pub mod law;
-pub mod names;
-pub mod once;
-pub mod order;
-pub mod pages;
 mod profile;
-pub mod section_alone;
-pub mod sections;
-pub mod segments;
-pub mod slice_pages;
 pub mod verdict;
 
 pub use verdict::verify_unambiguous;

@@ -2,10 +2,10 @@
 use Rattle.std.specs.Prelude.{ℕ, List, map, take, codes}
 use Rattle.macho_report.specs.Line.{cdhash_line}
 use Rattle.macho_report.specs.Stream.{joined}
-use Rattle.macho_sealed.specs.Cdhashes.{image_cdhashes}
-use Rattle.macho_sealed.specs.Digests.{bytes_of_digest}
-use Rattle.macho_sealed.specs.declared.digest.Digest.{Digest}
-use Rattle.macho_sealed.specs.declared.digest.Digest.TheVariants as digests
+use Rattle.macho_seals.specs.Cdhashes.{image_cdhashes}
+use Rattle.macho_seals.specs.Digests.{bytes_of_digest}
+use Rattle.macho_seals.specs.declared.digest.Digest.{Digest}
+use Rattle.macho_seals.specs.declared.digest.Digest.TheVariants as digests
 use Rattle.macho_fields.specs.declared.header.cs_blobs.TheConstants as cdhash
 
 -- the word of a type of hashes

@@ -8,7 +8,7 @@ ghost use Rattle.macho_verify.specs.Cdhashes.{cdhashes_text, type_word};
 
 use macho_image::Image;
 use macho_report::{Output, WriteFault, write_cdhash};
-use macho_sealed::{Cdhashes, Digest};
+use macho_seals::{Cdhashes, Digest};
 
 /// Writes a line for each code directory of an image that breaks no rule of the layout, in the order of the
 /// index of its signature.

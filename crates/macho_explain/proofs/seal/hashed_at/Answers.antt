@@ -1,5 +1,5 @@
 use Rattle.std.proofs.Common.{◌≡◌, ℕ, subst, arith, inl, inr}
-use Rattle.macho_sealed.specs.Specials.{BadSpecial}
+use Rattle.macho_seals.specs.Specials.{BadSpecial}
 use Rattle.macho_explain.specs.Seals.{HasDiffering}
 use Rattle.macho_fields.specs.Bytes.{bytes_of}
 use Rattle.macho_explain.proofs.ShownSeals.{special_differs}

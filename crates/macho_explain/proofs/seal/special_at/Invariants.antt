@@ -1,6 +1,6 @@
 use Rattle.std.proofs.Common.{◌≡◌, ◌<◌, ℕ}
 use Rattle.macho_fields.specs.Bytes.{bytes_of}
-use Rattle.macho_sealed.specs.Specials.{IsSpecialAt}
+use Rattle.macho_seals.specs.Specials.{IsSpecialAt}
 use Rattle.macho_signature.specs.Superblobs.{blob_at}
 use Rattle.macho_explain.proofs.seal.special_at.Given as goal
 

@@ -2,7 +2,7 @@ use Rattle.std.proofs.Common.{◌≡◌, ◌∙◌, Some, ap, inl, inr, subst, t
 use Rattle.std.specs.Prelude.{slice_get}
 use Rattle.macho_fields.specs.Bytes.{bytes_of}
 use Rattle.macho_fields.specs.Image.{command_cmd}
-use Rattle.macho_unambiguous.specs.Entry.{is_entry}
+use Rattle.macho_readers.specs.Entry.{is_entry}
 use Rattle.macho_explain.specs.Explain.{all_loads}
 use Rattle.macho_explain.specs.declared.walk.Sought.TheVariants as sought
 use Rattle.macho_explain.proofs.Sought.{no_earlier}

@@ -1,5 +1,5 @@
 use Rattle.std.proofs.Common.{◌≡◌, ◌∙◌, ◌^◌, ◌<◌, arith, subst, sym}
-use Rattle.macho_unambiguous.specs.Pages.{page_end, page_size}
+use Rattle.macho_readers.specs.Pages.{page_end, page_size}
 use Rattle.macho_explain.proofs.EntryPages.{page_end_fits}
 use Rattle.macho_explain.proofs.universal.pages_end.Goals as goal
 

@@ -3,12 +3,12 @@ use Rattle.macho_fields.specs.Bytes.{bytes_of}
 use Rattle.macho_fields.specs.Field.{part}
 use Rattle.macho_fields.specs.FirstPlace.{IsLeastPlace}
 use Rattle.macho_fields.specs.declared.rule.Rule.TheVariants as rule
-use Rattle.macho_sealed.specs.Executable.{IsExecutableIn}
-use Rattle.macho_sealed.specs.Signature.{RepeatedDirectory, BadHash, BreaksSignatureExecutable, BreaksDirectoryRepeated}
-use Rattle.macho_sealed.specs.Slack.{IsSlackAt}
+use Rattle.macho_seals.specs.Executable.{IsExecutableIn}
+use Rattle.macho_seals.specs.Signature.{RepeatedDirectory, BadHash, BreaksSignatureExecutable, BreaksDirectoryRepeated}
+use Rattle.macho_seals.specs.Slack.{IsSlackAt}
 use Rattle.macho_spans.specs.declared.span.Span.{Span}
 use Rattle.macho_sealed.proofs.Places.{one_signature, found_in_image}
-use Rattle.macho_sealed.proofs.TakenSlots.{none_repeated}
+use Rattle.macho_seals.proofs.TakenSlots.{none_repeated}
 use Rattle.macho_signature.proofs.Images.{least_in_signature}
 use Rattle.macho_tables.proofs.Places.{least_same}
 use Rattle.macho_sealed.proofs.check.check_signature.Goals as goal

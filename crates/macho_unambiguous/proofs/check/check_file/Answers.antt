@@ -1,6 +1,6 @@
 use Rattle.std.proofs.Common.{List, ℕ, subst}
 use Rattle.macho_fields.specs.FirstPlace.{IsLeastPlace}
-use Rattle.macho_unambiguous.specs.Files.{BreaksFatCount}
+use Rattle.macho_readers.specs.Files.{BreaksFatCount}
 use Rattle.macho_unambiguous.proofs.check.check_file.Goals as goal
 
 pub judge_file-requires-clause-least : goal.judge_file-requires-clause-least

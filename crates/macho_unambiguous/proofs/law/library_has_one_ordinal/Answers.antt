@@ -1,4 +1,4 @@
-use Rattle.macho_unambiguous.proofs.Numbers.{one_ordinal}
+use Rattle.macho_readers.proofs.Numbers.{one_ordinal}
 use Rattle.macho_unambiguous.proofs.law.library_has_one_ordinal.Goals as goal
 
 pub returns : goal.returns

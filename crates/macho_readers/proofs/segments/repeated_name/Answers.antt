@@ -1,0 +1,15 @@
+use Rattle.std.proofs.Common.{subst, List}
+use Rattle.macho_fields.specs.FirstPlace.{IsLeastPlace}
+use Rattle.macho_fields.specs.Segment.{all_segments}
+use Rattle.macho_readers.specs.Names.{RepeatsNames}
+use Rattle.macho_readers.specs.declared.names.Named.{Named}
+use Rattle.macho_readers.proofs.NamedSegments.{named, segments_repeat}
+use Rattle.macho_readers.proofs.SameNames.{least_listed}
+use Rattle.macho_readers.proofs.segments.repeated_name.Goals as goal
+
+pub returns-clause-least : goal.returns-clause-least
+returns-clause-least c =
+    let image = c.args.image.now in
+    segments_repeat image c.least_repeated.result
+    (least_listed (named image) (all_segments image) c.in_ok-names.names.items c.in_ok-names.ensures.names c.least_repeated.result
+    (subst (λ (items : List Named). IsLeastPlace (RepeatsNames items) c.least_repeated.result) c.deref_mut.ensures.value c.least_repeated.ensures))

@@ -1,0 +1,15 @@
+pub mod Pages
+pub mod Segments
+pub mod Commands
+pub mod Entry
+pub mod Files
+pub mod Sections
+pub mod SectionAlone
+pub mod Fixups
+pub mod Order
+pub mod Models
+pub mod PageModels
+pub mod HiddenEntries
+pub mod SectionBytes
+pub mod CommandModels
+pub mod Names

@@ -1,6 +1,0 @@
-use Rattle.std.proofs.Common.{rules}
-use Rattle.macho_sealed.proofs.SharedPages.{all_sizes}
-use Rattle.macho_sealed.proofs.pages.first_other_page.Goals as goal
-
-pub returns : goal.returns
-returns c = search (rules, all_sizes)

@@ -1,0 +1,11 @@
+pub mod Firsts
+pub mod Blobs
+pub mod Slacks
+pub mod TakenSlots
+pub mod PageSpans
+pub mod HashTests
+pub mod PlacedDirectories
+pub mod SharedPages
+pub mod SharedSpecials
+pub mod OtherHashes
+pub mod CdhashLists

@@ -1,0 +1,10 @@
+pub mod Digests
+pub mod Pages
+pub mod Specials
+pub mod Executable
+pub mod Signature
+pub mod Slack
+pub mod Slots
+pub mod Good
+pub mod Directories
+pub mod Cdhashes
