@@ -617,7 +617,7 @@ size_t kesvuot_read_segments(const void *file, size_t size, const struct kesvuot
 size_t kesvuot_read_sections(const void *file, size_t size, const struct kesvuot_image *image,
                              struct kesvuot_cursor *cursor, struct kesvuot_section *rows, size_t max);
 /* The libraries that the image loads, by LC_LOAD_DYLIB, LC_LOAD_WEAK_DYLIB, LC_REEXPORT_DYLIB, LC_LAZY_LOAD_DYLIB and
- * LC_LOAD_UPWARD_DYLIB. What the image is as a library is its `id`. */
+ * LC_LOAD_UPWARD_DYLIB. The image's own LC_ID_DYLIB is in its `id`. */
 size_t kesvuot_read_libraries(const void *file, size_t size, const struct kesvuot_image *image,
                               struct kesvuot_cursor *cursor, struct kesvuot_library *rows, size_t max);
 /* Each LC_BUILD_VERSION, and each LC_VERSION_MIN_.. of at least 16 bytes, which rules/layout.md does not list. */

@@ -1948,7 +1948,7 @@ def fat_header(file):
 
 def fat_page(file):
     """The slice is read, and it does not begin at a page, or another one begins past it, before its last page ends."""
-    # Each slice has bytes, and no two share one: the next one begins least of those that begin past it.
+    # No slice is empty and no two share a byte, so the next slice is the one with the least start past its own.
     starts = sorted(entry.offset for entry in file.entries)
     for image in file.slices:
         if image.is_64_bit:

@@ -7,9 +7,8 @@ case it prints a line of three texts with tabs between them: the case, what was 
 disagreement it prints both answers on standard error, and keeps the file.
 
 The program is macho-check. With --strict, --linked, --unambiguous or --sealed it is macho-verify, which judges by that
-profile: by the linked one the vectors of linked.txt and mutants of tables as well, by the unambiguous one the vectors of
-unambiguous.txt and mutants of what readers look for, and by the sealed one the vectors of sealed.txt and mutants of
-sealed files. macho-verify has no `where`: nothing is asked of addresses then.
+profile. Three profiles add files, which tests/oracle lists. macho-verify has no `where`, so it is not asked about
+addresses.
 """
 
 import argparse

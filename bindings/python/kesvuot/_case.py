@@ -34,7 +34,7 @@ PLAIN_NAMES = {
 # What `_parts` calls a segment and a section without names.
 NAMELESS = ("", "(no name)", ",")
 RELOCATIONS_OF = "relocations of "
-# What it calls a command whose cmd has no name begins with this.
+# The name that it gives to a command with an unknown cmd begins with this.
 UNKNOWN = "command "
 GROUPS = ("local", "defined", "undefined")
 
