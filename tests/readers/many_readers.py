@@ -3,7 +3,7 @@ several of them. A reader gives an answer, or None where it refuses: then it sho
 are the questions to which two readers of a file give different answers.
 
 A reader is a function of a file, or of a 64-bit slice, and of what the question is about. Where the verifier answers a
-question too, the first reader answers as the verifier does. crates/macho_unambiguous/specs/Models.antt has most of the
+question too, the first reader answers as the verifier does. crates/macho_readers/specs/Models.antt has most of the
 readers as relations.
 
 The readers judge nothing, and take for granted that the linked profile accepts the file. From

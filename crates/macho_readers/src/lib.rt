@@ -1,6 +1,6 @@
 #![tactic(auto)]
-//! The unambiguous rules, one by one, and the readers of which they are: they choose slices, segments, sections, load
-//! commands and entry points in different ways.
+//! The unambiguous rules, one by one, and models of the readers that they are about. These readers choose slices,
+//! segments, sections, load commands and entry points in different ways.
 
 pub mod commands;
 pub mod entry;
