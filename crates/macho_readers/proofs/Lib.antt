@@ -2,6 +2,8 @@ mod Found
 mod Optional
 mod FatEntries
 pub mod Platforms
+pub mod NameNumbers
+pub mod NameTails
 pub mod SameNames
 pub mod NamedSegments
 pub mod NamedSections

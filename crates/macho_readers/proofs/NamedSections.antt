@@ -1,6 +1,6 @@
 -- The sections of an opened image, what `find` and `any` return over them, and which is the first with the names of an
 -- earlier one.
-use Rattle.std.proofs.Common.{◌≡◌, ◌↔◌, ℕ, ◌+◌, ◌*◌, ◌<◌, ◌⊎◌, List, [], ◌∷◌, ◌++◌, map, length, get_or, Any, Contains, Bool, true, false, Option, IsTrue, refl, sym, ap, subst, arith, inl, inr}
+use Rattle.std.proofs.Common.{◌≡◌, ◌↔◌, ℕ, ◌+◌, ◌*◌, ◌<◌, ◌⊎◌, List, [], ◌∷◌, ◌++◌, map, length, get_or, slice_index, Any, Contains, Bool, true, false, Option, IsTrue, refl, sym, ap, subst, arith, inl, inr}
 use denote.Ref.{Bor}
 use Rattle.std.specs.Prelude.{flat_map}
 use Rattle.std.specs.Bool.{MatchBool}
@@ -29,6 +29,8 @@ use Rattle.macho_rules.proofs.SectionItems.{AreSections, sections_rising, with_s
 use Rattle.macho_tables.proofs.Places.{least_same}
 use Rattle.macho_readers.specs.Sections.{segment_name_of, LieInside, HasEarlierNames, HasBadName, AtSection, BreaksSectionName, IsMisnamed}
 use Rattle.macho_readers.proofs.Found.{least_found}
+use Rattle.macho_readers.specs.Names.{number_of}
+use Rattle.macho_readers.proofs.NameNumbers.{same_short}
 use Rattle.macho_readers.proofs.SameNames.{RepeatsListed}
 
 module _ (image : List ℕ) where
@@ -123,25 +125,30 @@ module _ (image : List ℕ) where
           decided true (k, less, holds) = (λ _. some k less holds, λ _. refl)
           decided false kept = (λ wrong. absurd (false≢true wrong), λ any. absurd (none kept any))
 
-  -- the names of a section, and its place
-  abbrev pub named : ℕ × ℕ → List ℕ × List ℕ × ℕ
-  named section = (segment_name_of image section.1, section_name image section.1, section.1)
+  -- the numbers of the names of a section, and its place
+  abbrev pub named : ℕ × ℕ → ℕ × ℕ × ℕ
+  named section = (number_of (segment_name_of image section.1), number_of (section_name image section.1), section.1)
 
-  to : (place : ℕ) → RepeatsListed named sections place → AtSection image (HasEarlierNames image) place
-  to place (one, earlier, has, has_earlier, segment, section, less, is) =
-      any_of (λ s. (place ≡ s.1) × HasEarlierNames image s) sections one has (
-        is,
-        any_of (λ e. (e.1 < one.1) × (section_name image e.1 ≡ section_name image one.1) × (segment_name_of image e.1 ≡ segment_name_of image one.1)) sections earlier has_earlier (less, section, segment),
-      )
+  module _ (fits : (k : ℕ) → slice_index image k < 256) where
+    to : (place : ℕ) → RepeatsListed named sections place → AtSection image (HasEarlierNames image) place
+    to place (one, earlier, has, has_earlier, segment, section, less, is) =
+        any_of (λ s. (place ≡ s.1) × HasEarlierNames image s) sections one has (
+          is,
+          any_of (λ e. (e.1 < one.1) × (section_name image e.1 ≡ section_name image one.1) × (segment_name_of image e.1 ≡ segment_name_of image one.1)) sections earlier has_earlier (
+            less,
+            same_short image fits earlier.1 one.1 section,
+            same_short image fits (earlier.1 + 16) (one.1 + 16) segment,
+          ),
+        )
 
-  from : (place : ℕ) → AtSection image (HasEarlierNames image) place → RepeatsListed named sections place
-  from place at =
-      let (one, has, (is, any)) = one_of (λ s. (place ≡ s.1) × HasEarlierNames image s) sections at in
-      let (earlier, has_earlier, (less, section, segment)) = one_of (λ e. (e.1 < one.1) × (section_name image e.1 ≡ section_name image one.1) × (segment_name_of image e.1 ≡ segment_name_of image one.1)) sections any in
-      (one, earlier, has, has_earlier, segment, section, less, is)
+    from : (place : ℕ) → AtSection image (HasEarlierNames image) place → RepeatsListed named sections place
+    from place at =
+        let (one, has, (is, any)) = one_of (λ s. (place ≡ s.1) × HasEarlierNames image s) sections at in
+        let (earlier, has_earlier, (less, section, segment)) = one_of (λ e. (e.1 < one.1) × (section_name image e.1 ≡ section_name image one.1) × (segment_name_of image e.1 ≡ segment_name_of image one.1)) sections any in
+        (one, earlier, has, has_earlier, ap number_of segment, ap number_of section, less, is)
 
-  pub sections_repeat : (found : Option ℕ) → IsLeastPlace (RepeatsListed named sections) found → IsLeastPlace (AtSection image (HasEarlierNames image)) found
-  sections_repeat found = least_same (RepeatsListed named sections) (AtSection image (HasEarlierNames image)) found (λ place. (to place, from place))
+    pub sections_repeat : (found : Option ℕ) → IsLeastPlace (RepeatsListed named sections) found → IsLeastPlace (AtSection image (HasEarlierNames image)) found
+    sections_repeat found = least_same (RepeatsListed named sections) (AtSection image (HasEarlierNames image)) found (λ place. (to place, from place))
 
   -- the two parts of the rule
   pub both : (place : ℕ) → (AtSection image (IsMisnamed image) place ⊎ AtSection image (HasEarlierNames image) place) ↔ BreaksSectionName image place

@@ -6,13 +6,12 @@ use Rattle.std.proofs.lemmas.List.Elements.{Contains-get_or}
 use Rattle.std.specs.Prelude.{IsPermutation, not, is_some}
 use Rattle.std.specs.Option.{option_map}
 use Rattle.std.proofs.lemmas.Option.{none-some, slice_get_within}
-use Rattle.std.specs.Cmp.{IsTotalOrder}
-use Rattle.std.specs.Cmp.Lexicographic.{slice_cmp, nat_list_cmp_total, on_texts, same_text, texts_ties}
+use Rattle.std.specs.Cmp.{IsTotalOrder, nat_cmp_total, on_total, unsigned_ties}
 use Rattle.std.specs.List.Sorted.{IsSortedBy}
 use Rattle.std.specs.Ordering.{ordering_then, ordering_index, nat_cmp, is_eq, is_lt, is_gt}
 use Rattle.std.specs.declared.cmp.Ordering.{Ordering}
 use Rattle.std.specs.declared.cmp.Ordering.TheVariants.{Less, Equal, Greater}
-use Rattle.std.proofs.lemmas.Bool.{true≢false}
+use Rattle.std.proofs.lemmas.Bool.{eqb-true, true≢false}
 use Rattle.std.proofs.lemmas.Cmp.{then_total, tied_itself}
 use Rattle.std.proofs.lemmas.List.Sorted.{Contains-permutation, IsPermutation-sym, searchable_from_sorted}
 use Rattle.macho_fields.specs.FirstPlace.{IsLeastPlace}
@@ -37,7 +36,7 @@ least_with P Q found p least to here from =
 
 -- what stands for an item that is not there
 abbrev no_named : Named
-no_named = record { segment = record { ref_ptr = (0, 0); now = [] }; section = record { ref_ptr = (0, 0); now = [] }; place = 0 }
+no_named = record { segment = 0; section = 0; place = 0 }
 
 module _ (items : List Named) where
   abbrev at : ℕ → Named
@@ -234,20 +233,20 @@ module _ (items : List Named) where
 
 abbrev pub by_names : Named → Named → Ordering
 by_names one other =
-    ordering_then (slice_cmp nat_cmp one.segment.now other.segment.now) (slice_cmp nat_cmp one.section.now other.section.now)
+    ordering_then (nat_cmp one.segment other.segment) (nat_cmp one.section other.section)
 
 by_names_total : IsTotalOrder by_names
-by_names_total = then_total (on_texts (λ (n : Named). n.segment.now)) (on_texts (λ (n : Named). n.section.now))
+by_names_total = then_total (on_total (λ (n : Named). n.segment) nat_cmp_total) (on_total (λ (n : Named). n.section) nat_cmp_total)
 
-text_tied : (xs ys : List ℕ) → xs ≡ ys → slice_cmp nat_cmp xs ys ≡ Equal
-text_tied xs ys same = ap (λ s. slice_cmp nat_cmp s ys) same ∙ tied_itself nat_list_cmp_total ys
+number_tied : (m n : ℕ) → m ≡ n → nat_cmp m n ≡ Equal
+number_tied m n same = ap (λ k. nat_cmp k n) same ∙ tied_itself nat_cmp_total n
 
-tied_text : (xs ys : List ℕ) → slice_cmp nat_cmp xs ys ≡ Equal → xs ≡ ys
-tied_text xs ys tied = same_text xs ys (sym (texts_ties xs ys ∙ ap is_eq tied))
+tied_number : (m n : ℕ) → nat_cmp m n ≡ Equal → m ≡ n
+tied_number m n tied = eqb-true m n (unsigned_ties m n ∙ ap is_eq tied)
 
 same_tied : (a b : Named) → HaveSameNames a b → by_names a b ≡ Equal
 same_tied a b (segment, section) =
-    ap (λ o. ordering_then o (slice_cmp nat_cmp a.section.now b.section.now)) (text_tied a.segment.now b.segment.now segment) ∙ text_tied a.section.now b.section.now section
+    ap (λ o. ordering_then o (nat_cmp a.section b.section)) (number_tied a.segment b.segment segment) ∙ number_tied a.section b.section section
 
 then_tied : (p q : Ordering) → ordering_then p q ≡ Equal → (p ≡ Equal) × (q ≡ Equal)
 then_tied Less q wrong = absurd (true≢false (ap is_lt wrong))
@@ -256,8 +255,8 @@ then_tied Greater q wrong = absurd (true≢false (ap is_gt wrong))
 
 tied_same : (a b : Named) → by_names a b ≡ Equal → HaveSameNames a b
 tied_same a b tied =
-    let (segment, section) = then_tied (slice_cmp nat_cmp a.segment.now b.segment.now) (slice_cmp nat_cmp a.section.now b.section.now) tied in
-    (tied_text a.segment.now b.segment.now segment, tied_text a.section.now b.section.now section)
+    let (segment, section) = then_tied (nat_cmp a.segment b.segment) (nat_cmp a.section b.section) tied in
+    (tied_number a.segment b.segment segment, tied_number a.section b.section section)
 
 in_middle : (r : Ordering) → 1 ≤ ordering_index r → ordering_index r ≤ 1 → r ≡ Equal
 in_middle Less low high = absurd (omega (arith, low))
@@ -285,7 +284,7 @@ least_moved items moved found same =
 
 -- Items that stand for what is listed
 
-module _ {A : Type 0} (of : A → List ℕ × List ℕ × ℕ) (listed : List A) where
+module _ {A : Type 0} (of : A → ℕ × ℕ × ℕ) (listed : List A) where
   -- one that is listed is at the place, and one at a lesser place has its names
   abbrev pub RepeatsListed : ℕ → Type 0
   RepeatsListed place =

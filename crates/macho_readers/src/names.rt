@@ -1,10 +1,11 @@
 //! Names that are the same: the first of many that an earlier one repeats.
 
-ghost use Rattle.std.specs.Prelude.{◌≡◌, ◌+◌, ◌≤◌, ◌↔◌, IsTrue, length};
+ghost use Rattle.std.specs.Prelude.{◌≡◌, ℕ, ◌+◌, ◌≤◌, ◌<◌, ◌↔◌, IsTrue, length, slice_index};
 ghost use Rattle.macho_fields.specs.Bytes.{bytes_of};
+ghost use Rattle.macho_fields.specs.Field.{part};
 ghost use Rattle.macho_fields.specs.FirstPlace.{IsLeastPlace};
 ghost use Rattle.macho_image.specs.Segment.{short_name};
-ghost use Rattle.macho_readers.specs.Names.{AreGrouped, RepeatsNames, HaveSameNames};
+ghost use Rattle.macho_readers.specs.Names.{number_of, AreGrouped, RepeatsNames, HaveSameNames};
 ghost use Rattle.macho_readers.specs.Segments.{HasTail};
 
 use macho_fields::header::loader::SHORT_NAME_SIZE;
@@ -14,11 +15,11 @@ use macho_tables::place::lesser;
 /// The most items whose names or addresses are compared in pairs, which takes no memory.
 pub const FEW_NAMES: usize = 64;
 
-// The two names of an item, and where it begins. An item with one name has an empty one besides.
+// The numbers of the two names of an item, and where it begins. An item with one name has an empty one besides.
 #[derive(Clone, Copy)]
-pub(crate) struct Named<'a> {
-    pub(crate) segment: &'a [u8],
-    pub(crate) section: &'a [u8],
+pub(crate) struct Named {
+    pub(crate) segment: u128,
+    pub(crate) section: u128,
     pub(crate) place: u64,
 }
 
@@ -59,16 +60,60 @@ fn has_same_names(one: &Named, other: &Named) -> bool
     one.segment == other.segment && one.section == other.section
 }
 
-// Whether a byte of the 16 at `place` is not zero, and comes after their name.
-pub(crate) fn has_tail(image: Bytes, place: u64, name: &[u8]) -> bool
-    requires inside { place + SHORT_NAME_SIZE ≤ length (bytes_of image) }
-    requires name { name.now ≡ short_name (bytes_of image) place }
+// The number whose digits to the base 256 are the bytes of the name in the 16 at `place`. Other names have other numbers.
+pub(crate) fn name_number(image: Bytes, place: u64) -> u128
+    requires { place + SHORT_NAME_SIZE ≤ length (bytes_of image) }
+    ensures { result ≡ number_of (short_name (bytes_of image.entry) place) }
+{
+    let mut number = 0;
+    for byte in name_field(image, place) {
+        if *byte == 0 {
+            return number;
+        }
+        number = number * 256 + u128::from(*byte);
+    }
+    number
+}
+
+// Whether a byte of the 16 at `place` is not zero, and comes after one that is.
+pub(crate) fn has_tail(image: Bytes, place: u64) -> bool
+    requires { place + SHORT_NAME_SIZE ≤ length (bytes_of image) }
     ensures { IsTrue result ↔ HasTail (bytes_of image.entry) place }
 {
-    let past = name.len() as u64;
-    let tail = Span {
-        start: place + past,
-        len: SHORT_NAME_SIZE - past,
-    };
-    image.first_nonzero(tail).is_some()
+    let mut is_ended = false;
+    for byte in name_field(image, place) {
+        if *byte == 0 {
+            is_ended = true;
+        } else if is_ended {
+            return true;
+        }
+    }
+    false
+}
+
+// The 16 bytes at `place`.
+pub(crate) fn name_field(image: Bytes, place: u64) -> &[u8]
+    requires { place + SHORT_NAME_SIZE ≤ length (bytes_of image) }
+    ensures { result.now ≡ part place 16 (bytes_of image.entry) }
+{
+    image.read_part(Span {
+        start: place,
+        len: SHORT_NAME_SIZE,
+    })
+}
+
+// Does nothing. Proofs learn from it that each byte of the image fits in 8 bits, by which names are told apart.
+pub(crate) fn note_bytes(image: Bytes)
+    ensures { (k : ℕ) → slice_index (bytes_of image.entry) k < 256 }
+{
+    note_items(image.read_part(Span {
+        start: 0,
+        len: image.len(),
+    }));
+}
+
+fn note_items(bytes: &[u8])
+    ensures { (k : ℕ) → slice_index bytes.now k < 256 }
+{
+    let _bytes = bytes;
 }

@@ -4,10 +4,12 @@ ghost use Rattle.std.specs.Prelude.{◌≡◌, ◌+◌, ◌≤◌, ◌<◌, ◌�
 ghost use Rattle.macho_fields.specs.FirstPlace.{IsLeastPlace};
 ghost use Rattle.macho_fields.specs.Image.{commands_of};
 ghost use Rattle.macho_image.specs.Segment.{sections_of, section_name as section_name_of};
-ghost use Rattle.macho_readers.specs.Names.{names_of};
+ghost use Rattle.macho_readers.specs.Names.{number_of, names_of};
 ghost use Rattle.macho_readers.specs.Sections.{segment_name_of, LieInside, HasOtherSegment, IsMisnamed, HasEarlierNames, AtSection, BreaksSectionName};
 
-use crate::names::{FEW_NAMES, Named, has_tail, least_repeated};
+use crate::names::{
+    FEW_NAMES, Named, has_tail, least_repeated, name_field, name_number, note_bytes,
+};
 use macho_fields::Span;
 use macho_fields::header::loader::{
     SECTION_64_SIZE, SHORT_NAME_SIZE, section_64, segment_command_64,
@@ -42,8 +44,7 @@ fn is_misnamed(section: &Section) -> bool
     requires { LieInside section.now.image (section.now.segment, section.now.place) }
     ensures { IsTrue result ↔ IsMisnamed section.now.image (section.now.segment, section.now.place) }
 {
-    has_tail(section.segment().image(), section.place(), section.name())
-        || has_other_segment(section)
+    has_tail(section.segment().image(), section.place()) || has_other_segment(section)
 }
 
 // Whether the 16 bytes of `segname` are not those that name the segment.
@@ -54,15 +55,8 @@ fn has_other_segment(section: &Section) -> bool
 {
     let segment = section.segment();
     let image = segment.image();
-    let own = Span {
-        start: section.place() + section_64::SEGNAME,
-        len: SHORT_NAME_SIZE,
-    };
-    let other = Span {
-        start: segment.place() + segment_command_64::SEGNAME,
-        len: SHORT_NAME_SIZE,
-    };
-    image.read_part(own) != image.read_part(other)
+    let own = name_field(image, section.place() + section_64::SEGNAME);
+    own != name_field(image, segment.place() + segment_command_64::SEGNAME)
 }
 
 /// The name of the segment that the section says it is in.
@@ -91,6 +85,7 @@ fn repeated_names(alloc: Global, image: &Image) -> Result<Option<u64>, AllocErro
         return Ok(first_repeated(image));
     }
     let mut names = section_names(alloc, image)?;
+    note_bytes(image.bytes());
     Ok(least_repeated(&mut names))
 }
 
@@ -130,18 +125,35 @@ fn has_earlier_names(image: &Image, section: &Section) -> bool
 }
 
 // The names of the sections.
-fn section_names<'a>(alloc: Global, image: &Image<'a>) -> Result<Vec<Named<'a>>, AllocError>
+fn section_names(alloc: Global, image: &Image) -> Result<Vec<Named>, AllocError>
     ensures names { IfOk result (λ names. map names_of names.items
-        ≡ map (λ section. (segment_name_of image.now section.1, section_name_of image.now section.1, section.1))
+        ≡ map (λ section. (
+          number_of (segment_name_of image.now section.1),
+          number_of (section_name_of image.now section.1),
+          section.1,
+        ))
         (sections_of image.now (commands_of image.now))) }
 {
     let mut names = Vec::new(alloc);
     for section in image.sections() {
-        names.push(Named {
-            segment: segment_name(&section),
-            section: section.name(),
-            place: section.place(),
-        })?;
+        names.push(named(&section))?;
     }
     Ok(names)
+}
+
+// The names of the section.
+fn named(section: &Section) -> Named
+    requires { section.now.place + SECTION_64_SIZE ≤ length section.now.image }
+    ensures { result ≡ record {
+      segment = number_of (segment_name_of section.now.image section.now.place);
+      section = number_of (section_name_of section.now.image section.now.place);
+      place = section.now.place;
+    } }
+{
+    let image = section.segment().image();
+    Named {
+        segment: name_number(image, section.place() + section_64::SEGNAME),
+        section: name_number(image, section.place()),
+        place: section.place(),
+    }
 }

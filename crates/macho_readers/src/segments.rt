@@ -1,15 +1,15 @@
 //! The rules of segments: what readers see of their pages, their protection and their names.
 //! (`mach-o/loader.h`: `segment_command_64`)
 
-ghost use Rattle.std.specs.Prelude.{◌≡◌, ◌+◌, ◌≤◌, ◌<◌, ◌↔◌, [], IsTrue, IfOk, OnErr, map, length, Any, Contains, find};
+ghost use Rattle.std.specs.Prelude.{◌≡◌, ◌+◌, ◌≤◌, ◌<◌, ◌↔◌, IsTrue, IfOk, OnErr, map, length, Any, Contains, find};
 ghost use Rattle.macho_fields.specs.FirstPlace.{IsLeastPlace};
 ghost use Rattle.macho_fields.specs.Segment.{all_segments, shows_start};
 ghost use Rattle.macho_image.specs.Segment.{segment_name as segment_name_of};
-ghost use Rattle.macho_readers.specs.Names.{names_of};
+ghost use Rattle.macho_readers.specs.Names.{number_of, names_of};
 ghost use Rattle.macho_readers.specs.Pages.{page_size as page_size_of};
 ghost use Rattle.macho_readers.specs.Segments.{HasUnevenMemory, HasUnevenBytes, IsOffPage, BreaksSegmentPage, ExceedsMaximum, HasOtherBits, IsLessAllowed, BreaksSegmentProtection, HasTail, HasEarlierName, IsTextBut, IsOtherText, IsMisnamedBut, BreaksSegmentName};
 
-use crate::names::{FEW_NAMES, Named, has_tail, least_repeated};
+use crate::names::{FEW_NAMES, Named, has_tail, least_repeated, name_number, note_bytes};
 use crate::pages::page_size;
 use macho_fields::header::loader::SEGMENT_COMMAND_64_SIZE;
 use macho_fields::header::loader::segment_command_64::SEGNAME;
@@ -71,7 +71,7 @@ fn is_misnamed(segment: &Segment, base: Option<u64>) -> bool
     requires { segment.now.place + SEGMENT_COMMAND_64_SIZE ≤ length segment.now.image }
     ensures { IsTrue result ↔ IsMisnamedBut base segment.now.image segment.now.place }
 {
-    has_tail(segment.image(), segment.place() + SEGNAME, segment.name())
+    has_tail(segment.image(), segment.place() + SEGNAME)
         || is_text_but(segment, base)
         || segment.name().is_empty()
 }
@@ -93,6 +93,7 @@ fn repeated_name(alloc: Global, image: &Image) -> Result<Option<u64>, AllocError
         return Ok(first_repeated(image));
     }
     let mut names = segment_names(alloc, image)?;
+    note_bytes(image.bytes());
     Ok(least_repeated(&mut names))
 }
 
@@ -126,15 +127,16 @@ fn has_earlier_name(image: &Image, segment: &Segment) -> bool
 }
 
 // The names of the segments.
-fn segment_names<'a>(alloc: Global, image: &Image<'a>) -> Result<Vec<Named<'a>>, AllocError>
+fn segment_names(alloc: Global, image: &Image) -> Result<Vec<Named>, AllocError>
     ensures names { IfOk result (λ names. map names_of names.items
-        ≡ map (λ segment. (segment_name_of image.now segment, [], segment)) (all_segments image.now)) }
+        ≡ map (λ segment. (number_of (segment_name_of image.now segment), 0, segment))
+        (all_segments image.now)) }
 {
     let mut names = Vec::new(alloc);
     for segment in image.segments() {
         names.push(Named {
-            segment: segment.name(),
-            section: &[],
+            segment: name_number(segment.image(), segment.place() + SEGNAME),
+            section: 0,
             place: segment.place(),
         })?;
     }

@@ -9,8 +9,8 @@ use Rattle.macho_readers.proofs.sections.section_names.Goals as goal
 pub loop-section-init : goal.loop-section-init
 loop-section-init c = ([], refl, ap (map names_of) c.new-names.ensures.items)
 
-pub segment_name-requires : goal.segment_name-requires
-segment_name-requires c =
+pub named-requires : goal.named-requires
+named-requires c =
     let are = c.into_iter-section-iterator.ensures.into_iter_gives ∙ c.sections-section-items.ensures.sections in
     let (seen, reached, listed) = c.loop-section.invariant in
     let s = c.in-Some.section in
@@ -22,7 +22,7 @@ loop-section-preserved c =
     let s = c.in-Some.section in (
       seen ++ s ∷ [],
       walked_on _ seen _ s _ reached c.in-Some.ensures.steps,
-      listed_more (λ (s : SectionView). named s.image (s.segment, s.place)) seen seen s _ _ _ c.in_ok-push.ensures.items listed (λ i. (c.segment_name.ensures i, c.name.ensures i, c.place.ensures i)),
+      listed_more (λ (s : SectionView). named s.image (s.segment, s.place)) seen seen s _ _ _ c.in_ok-push.ensures.items listed (ap names_of c.named.ensures),
     )
 
 pub returns : goal.returns
