@@ -60,7 +60,7 @@ fn has_same_names(one: &Named, other: &Named) -> bool
     one.segment == other.segment && one.section == other.section
 }
 
-// The number whose digits to the base 256 are the bytes of the name in the 16 at `place`. Other names have other numbers.
+// The number whose digits to the base 256 are the bytes of the name in the 16 at `place`. Each name has its own number.
 pub(crate) fn name_number(image: Bytes, place: u64) -> u128
     requires { place + SHORT_NAME_SIZE ≤ length (bytes_of image) }
     ensures { result ≡ number_of (short_name (bytes_of image.entry) place) }

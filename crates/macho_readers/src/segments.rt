@@ -38,9 +38,9 @@ pub fn segment_protection(image: &Image) -> Option<u64>
     place_of_segment(image.segments().find(|segment| is_less_allowed(segment)))
 }
 
-/// The place of the first segment with a byte past its name, with the name of an earlier segment, without a name, or with
-/// the name `__TEXT` and without the base, or the reverse. For n segments it takes time in the order of n log n, and memory only
-/// if there are more than [`FEW_NAMES`].
+/// The place of the first segment with a byte past its name, with the name of an earlier segment, without a name, or
+/// with the name `__TEXT` and without the base, or the reverse. For n segments it takes time in the order of n log n,
+/// and memory only if there are more than [`FEW_NAMES`].
 pub fn segment_name(alloc: Global, image: &Image) -> Result<Option<u64>, AllocError>
     ensures least { IfOk result (IsLeastPlace (BreaksSegmentName image.now)) }
     ensures memory { OnErr result (FEW_NAMES < length (all_segments image.now)) }

@@ -8,7 +8,7 @@ use macho_fields::Span;
 use macho_image::{Image, Segment};
 use macho_strict::is_code;
 
-// The place of the first segment that may be executed, and has a byte of the signature.
+/// The place of the first segment that may be executed, and has a byte of the signature.
 pub fn first_executable(image: &Image, signature: Span) -> Option<u64>
     ensures { IsLeastPlace (IsExecutableIn signature image.now) result }
 {

@@ -13,8 +13,8 @@ use crate::specials::first_other_special;
 use macho_fields::Bytes;
 use macho_tables::place::place_from;
 
-// The least place of a page, or of a blob of the signature, with another hash in a code directory. The signature
-// begins at `start` in the image, past all pages.
+/// The least place of a page, or of a blob of the signature, with another hash in a code directory. The signature
+/// begins at `start` in the image, past all pages. It reads each page once, and takes no memory.
 pub fn first_other_hash(image: Bytes, start: u64, signature: Bytes) -> Option<u64>
     requires whole { IsWholeSignature start (bytes_of signature) }
     requires apart { AreApart (bytes_of signature) }

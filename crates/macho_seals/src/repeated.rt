@@ -10,7 +10,7 @@ use crate::slots::{DIRECTORY_SLOTS, slot_number};
 use macho_fields::Bytes;
 use macho_signature::superblob::entry_offset;
 
-// The first entry of a signature with the slot of code directories that an earlier one has.
+/// The first entry of a signature with the slot of code directories that an earlier one has.
 pub fn first_repeated(signature: Bytes) -> Option<u64>
     requires { AreGoodBlobs (bytes_of signature) }
     ensures { IsLeastPlace (RepeatedDirectory (bytes_of signature.entry)) result }

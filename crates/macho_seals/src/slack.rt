@@ -10,8 +10,8 @@ use crate::signature::{blob_at, superblob_of};
 use macho_fields::Bytes;
 use macho_strict::slack::nonzero_within;
 
-// The first byte of an image, from its signature on, that is not zero, and lies neither in the superblob with its index
-// nor in a blob. The signature begins at `start` in the image.
+/// The first byte of an image, from its signature on, that is not zero, and lies neither in the superblob with its
+/// index nor in a blob. The signature begins at `start` in the image.
 pub fn first_slack(image: Bytes, start: u64, signature: Bytes) -> Option<u64>
     requires blobs { AreGoodBlobs (bytes_of signature) }
     requires inside { start + length (bytes_of signature) ≤ length (bytes_of image) }
