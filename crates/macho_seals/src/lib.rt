@@ -9,7 +9,7 @@ pub mod executable;
 pub mod hashes;
 pub mod pages;
 pub mod repeated;
-mod signature;
+pub mod signature;
 pub mod slack;
 mod slots;
 pub mod specials;

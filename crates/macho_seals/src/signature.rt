@@ -8,16 +8,16 @@ ghost use Rattle.macho_signature.specs.Superblobs.{superblob_at, blob_at as blob
 use macho_fields::Bytes;
 use macho_signature::{Blob, Superblob};
 
-// The superblob of the signature.
-pub(crate) fn superblob_of(signature: Bytes) -> Superblob
+/// The superblob of the signature.
+pub fn superblob_of(signature: Bytes) -> Superblob
     requires { AreGoodBlobs (bytes_of signature) }
     ensures { result ≡ superblob_at (bytes_of signature.entry) }
 {
     Superblob::read(signature).unwrap()
 }
 
-// The blob of the entry with this index.
-pub(crate) fn blob_at(signature: Bytes, superblob: Superblob, index: u32) -> Blob
+/// The blob of the entry with this index.
+pub fn blob_at(signature: Bytes, superblob: Superblob, index: u32) -> Blob
     requires superblob { superblob ≡ superblob_at (bytes_of signature) }
     requires blobs { AreGoodBlobs (bytes_of signature) }
     requires index { index < blob_count (bytes_of signature) }
@@ -29,8 +29,8 @@ pub(crate) fn blob_at(signature: Bytes, superblob: Superblob, index: u32) -> Blo
         .unwrap()
 }
 
-// The bytes of a blob, with its magic number and its length.
-pub(crate) fn blob_bytes<'a>(signature: Bytes<'a>, blob: Blob) -> &'a [u8]
+/// The bytes of a blob, with its magic number and its length.
+pub fn blob_bytes<'a>(signature: Bytes<'a>, blob: Blob) -> &'a [u8]
     requires { blob_end blob ≤ length (bytes_of signature) }
     ensures { result.now ≡ blob_bytes_of (bytes_of signature.entry) blob }
 {

@@ -1,0 +1,4 @@
+pub mod Noted
+pub mod KnownSlots
+pub mod SeenSlots
+pub mod Images
