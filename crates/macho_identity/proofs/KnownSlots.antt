@@ -7,7 +7,7 @@ use Rattle.macho_identity.specs.Slots.{slot_number, is_alternate_slot, is_late_s
 use Rattle.macho_signature.specs.Superblobs.{is_directory_slot}
 
 -- Of a choice that is there
-step : (test : Bool) (x : ℕ) (rest : Option ℕ) (n : ℕ) → (if test then Some x else rest) ≡ Some n → ((test ≡ true) × (n ≡ x)) ⊎ (rest ≡ Some n)
+pub step : (test : Bool) (x : ℕ) (rest : Option ℕ) (n : ℕ) → (if test then Some x else rest) ≡ Some n → ((test ≡ true) × (n ≡ x)) ⊎ (rest ≡ Some n)
 step true x rest n is = inl (refl, sym (same_Some x n is))
 step false x rest n is = inr is
 

@@ -2,3 +2,5 @@ pub mod Noted
 pub mod KnownSlots
 pub mod SeenSlots
 pub mod Images
+pub mod Texts
+pub mod AgreeingDirectories

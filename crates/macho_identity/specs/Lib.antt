@@ -1,2 +1,5 @@
 pub mod Slots
 pub mod SignatureSlot
+pub mod Identity
+pub mod DirectoryAgree
+pub mod FirstDirectories

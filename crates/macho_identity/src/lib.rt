@@ -2,6 +2,8 @@
 //! What a code signature says of a program, and the rules under which all its readers see the same: which blob is in
 //! a slot, and what the code directories say.
 
+pub mod directory_agree;
 pub mod header;
+pub mod identity;
 pub mod signature_slot;
 pub mod slots;
