@@ -4,3 +4,7 @@ pub mod SeenSlots
 pub mod Images
 pub mod Texts
 pub mod AgreeingDirectories
+pub mod OneBlob
+pub mod OneIdentity
+pub mod ClearDirectories
+pub mod StayingDirectories

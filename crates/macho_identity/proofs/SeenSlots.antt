@@ -55,7 +55,7 @@ module _ (signature : List ℕ) (k least : ℕ) (past : IsPastUnnamed signature 
   high_is_good none high fit (inr (inl (is, (j, less, (also, greater))))) = let up = past.below j less also in omega (arith, up, high, greater)
   high_is_good none high fit (inr (inr misfit)) = fit misfit
 
--- the magic number that was read is that of the blob
+-- the magic number that was read is the magic number of the blob
 module _ (signature : List ℕ) (k : ℕ) (blob : Blob) (is : blob ≡ blob_at signature k) (magic : ℕ) (at : magic ≡ big_word signature blob.offset) where
   pub misfit_there : IsMisfit blob.slot magic → IsMisfit (blob_at signature k).slot (magic_at signature k)
   misfit_there misfit = subst (λ (b : Blob). IsMisfit b.slot (big_word signature b.offset)) is (subst (IsMisfit blob.slot) at misfit)

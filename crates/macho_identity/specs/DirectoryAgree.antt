@@ -13,8 +13,8 @@ abbrev pub HasDirectory : List ℕ → ℕ → Type 0
 HasDirectory signature k = IsDirectoryAt signature k × IsSome (code_directory (bytes_at signature k))
 
 -- Readers differ about a directory with this blob alone: codeLimit64 is another limit than codeLimit, at 32; or
--- pageSize is 0, which is one page with all bytes, or pages of one byte; or a text begins among the fields. The
--- identifier does, too, where it has offset 0: it begins with the magic number, or there is none.
+-- pageSize is 0, which is one page with all bytes, or pages of one byte; or a text begins among the fields. So
+-- does an identifier at 0: some readers begin it with the magic number of the directory, and others see no identifier.
 abbrev pub HasTwoLimits : List ℕ → Type 0
 HasTwoLimits blob = (code_limit_64 blob ≢ 0) × (code_limit_64 blob ≢ big_word blob 32)
 

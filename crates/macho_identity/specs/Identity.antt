@@ -22,8 +22,7 @@ abbrev pub page_size : List ℕ → ℕ
 page_size blob = slice_index blob 39
 
 -- flags at 12; platform, of one byte, at 38; of 64 bits each execSegBase at 64, execSegLimit 72, execSegFlags 80; runtime
--- at 88. The executable segment and the runtime are 0 in a version without
--- them
+-- at 88. A version without the fields of the executable segment, or without runtime, has 0 there.
 abbrev pub long_since : ℕ → ℕ → List ℕ → ℕ
 long_since version offset blob = if nat_le version (version_of blob) then big_long blob offset else 0
 
@@ -38,7 +37,7 @@ settings_of blob = record {
   runtime = word_since cs.CS_SUPPORTSRUNTIME 88 blob;
 }
 
--- the bytes of a text, up to the first zero byte: the identifier, and the team, of which there is none at 0
+-- the identifier and the team are bytes up to the first zero byte; a directory whose teamOffset is 0 has no team
 unfoldable pub identifier_of : List ℕ → List ℕ
 identifier_of blob = string_from (ident_offset blob) blob
 

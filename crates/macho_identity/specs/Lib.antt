@@ -3,3 +3,4 @@ pub mod SignatureSlot
 pub mod Identity
 pub mod DirectoryAgree
 pub mod FirstDirectories
+pub mod Models

@@ -12,8 +12,8 @@ use Rattle.macho_tables.specs.Items.{AtItem}
 abbrev pub RepeatsSlot : List ℕ → ℕ → Type 0
 RepeatsSlot signature = WithEarlier (HaveSameSlot signature)
 
--- its slot has no name, and an earlier entry with such a slot has a greater one. Programs that sign write an index by
--- rising slots.
+-- its slot has no name, and an earlier entry has a greater slot without a name. Slots without a name rise, so that one
+-- walk over the index finds each repetition.
 abbrev pub IsUnnamed : List ℕ → ℕ → Type 0
 IsUnnamed signature k = slot_number (blob_at signature k).slot ≡ None
 

@@ -16,7 +16,7 @@ magic_of_slot slot =
     then Some readers.CSMAGIC_EMBEDDED_LAUNCH_CONSTRAINT
     else (if slot == readers.CSSLOT_SIGNATURESLOT then Some readers.CSMAGIC_BLOBWRAPPER else None)))))
 
--- it is that of a known slot
+-- a known slot has the magic number
 abbrev pub IsKnownMagic : ℕ → Type 0
 IsKnownMagic magic = (slot : ℕ) × (magic_of_slot slot ≡ Some magic)
 
@@ -29,7 +29,7 @@ is_known_magic magic =
     || (magic == readers.CSMAGIC_EMBEDDED_DER_ENTITLEMENTS
     || (magic == readers.CSMAGIC_EMBEDDED_LAUNCH_CONSTRAINT || magic == readers.CSMAGIC_BLOBWRAPPER))))
 
--- the slot has another magic number; or it has none, and the magic number is that of a known slot
+-- the slot has another magic number; or it has none, and a known slot has the magic number
 abbrev pub IsMisfit : ℕ → ℕ → Type 0
 IsMisfit slot magic = MatchOption (magic_of_slot slot) (IsKnownMagic magic) (λ known. magic ≢ known)
 
@@ -37,8 +37,8 @@ IsMisfit slot magic = MatchOption (magic_of_slot slot) (IsKnownMagic magic) (λ 
 abbrev pub magic_at : List ℕ → ℕ → ℕ
 magic_at signature k = big_word signature (blob_at signature k).offset
 
--- The slots that have a name, by numbers from 0 on: those with a hash in code directories, those of the code
--- directories, and those past them. A slot without a name has none.
+-- The slots that have a name, by numbers from 0 on: the slots with a hash in code directories, the other slots of code
+-- directories, and the slots past them. A slot without a name has no number.
 abbrev pub is_alternate_slot : ℕ → Bool
 is_alternate_slot slot =
     nat_le cs.CSSLOT_ALTERNATE_CODEDIRECTORIES slot

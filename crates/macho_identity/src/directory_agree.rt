@@ -127,7 +127,7 @@ fn is_unclear(directory: Bytes) -> bool
     has_two_limits(directory) || directory.read_u8(PAGE_SIZE) == 0 || has_text_in_fields(directory)
 }
 
-// Whether the limit of 64 bits is another than that of 32.
+// Whether there is a limit of 64 bits, and the limit of 32 bits is another.
 fn has_two_limits(directory: Bytes) -> bool
     requires { HasFields (bytes_of directory) }
     ensures { IsTrue result ↔ HasTwoLimits (bytes_of directory.entry) }

@@ -1,4 +1,4 @@
-//! Of `kern/cs_blobs.h`: the slots of blobs that readers look for, and the magic numbers of these.
+//! Constants of `kern/cs_blobs.h`: the slots of blobs that readers look for, and their magic numbers.
 
 /// The slot of the requirements.
 pub const CSSLOT_REQUIREMENTS: u32 = 2;
@@ -10,9 +10,9 @@ pub const CSSLOT_DER_ENTITLEMENTS: u32 = 7;
 pub const CSSLOT_LAUNCH_CONSTRAINT_SELF: u32 = 8;
 /// The last slot of launch constraints. It is the last one that has a hash in code directories, too.
 pub const CSSLOT_LIBRARY_CONSTRAINT: u32 = 11;
-/// The slot of the signature by a certificate, and the first of those that have no hash in code directories.
+/// The slot of the signature by a certificate, the first past the slots of code directories.
 pub const CSSLOT_SIGNATURESLOT: u32 = 0x1_0000;
-/// The last slot of those.
+/// The slot of the ticket, the last one with a name.
 pub const CSSLOT_TICKETSLOT: u32 = 0x1_0002;
 
 /// The magic number of requirements.

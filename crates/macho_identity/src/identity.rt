@@ -28,7 +28,7 @@ pub const RUNTIME: u64 = 88;
 pub struct Settings {
     /// The flags of the signature.
     pub flags: u32,
-    /// The platform of which the program is a part, or 0.
+    /// The platform that the program is a part of, or 0.
     pub platform: u8,
     /// Where the executable segment begins in the file.
     pub exec_seg_base: u64,
@@ -139,7 +139,7 @@ pub(crate) fn long_since(blob: Bytes, version: u32, offset: u64) -> u64
     }
 }
 
-// The bytes from an offset on, up to the first zero byte, or all of them if none is zero.
+// The bytes from an offset on, up to the first zero byte, or all bytes if no byte is zero.
 fn text(blob: Bytes, offset: u32) -> &[u8]
     ensures { result.now ≡ string_from offset (bytes_of blob.entry) }
 {

@@ -5,5 +5,6 @@
 pub mod directory_agree;
 pub mod header;
 pub mod identity;
+pub mod law;
 pub mod signature_slot;
 pub mod slots;

@@ -41,7 +41,7 @@ fn first_bad_slot(signature: Bytes) -> Option<u64>
     let superblob = superblob_of(signature);
     // Which of the slots with a name an earlier entry has.
     let mut is_taken = [false; NAMED_SLOTS];
-    // The least slot without a name that is greater than those of all earlier entries.
+    // One more than the greatest slot without a name that an earlier entry has, or 0.
     let mut least = 0;
     for index in 0..superblob.count {
         let blob = blob_at(signature, superblob, index);

@@ -1,4 +1,4 @@
-//! The slots of the blobs that readers look for, and the magic numbers of these. (`cs_blobs.h`: `CSSLOT_CODEDIRECTORY`,
+//! The slots of the blobs that readers look for, and the magic numbers of the blobs. (`cs_blobs.h`: `CSSLOT_CODEDIRECTORY`,
 //! `CSMAGIC_CODEDIRECTORY` and the constants beside them)
 
 ghost use Rattle.std.specs.Prelude.{◌≡◌, ◌↔◌, ◌<◌, IfSome, IsTrue};
@@ -42,7 +42,7 @@ pub fn magic_of_slot(slot: u32) -> Option<u32>
     }
 }
 
-/// Whether the magic number is that of a slot that readers know.
+/// Whether a slot that readers know has the magic number.
 pub fn is_known_magic(magic: u32) -> bool
     ensures { result ≡ is_known_magic_of magic }
 {
@@ -57,8 +57,8 @@ pub fn is_known_magic(magic: u32) -> bool
     )
 }
 
-/// Whether a blob in the slot has another magic number than this, or, if readers do not know the slot, whether the
-/// magic number is that of a slot that they know.
+/// Whether a blob in the slot has another magic number than this, or, if readers do not know the slot, whether a slot that
+/// they know has the magic number.
 #[tactic(auto, using(crate::proofs::KnownSlots::known_test))]
 pub fn is_misfit(slot: u32, magic: u32) -> bool
     ensures { IsTrue result ↔ IsMisfit slot magic }

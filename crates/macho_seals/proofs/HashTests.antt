@@ -7,7 +7,7 @@ use Rattle.macho_seals.specs.Pages.{bytes_in}
 use Rattle.macho_seals.specs.Specials.{special_slot, HasSpecialHash}
 use Rattle.macho_signature.specs.declared.code_directory.CodeDirectory.{CodeDirectory}
 
-same_or_not : (xs ys : List ℕ) → (xs ≡ ys) ⊎ ¬ (xs ≡ ys)
+pub same_or_not : (xs ys : List ℕ) → (xs ≡ ys) ⊎ ¬ (xs ≡ ys)
 same_or_not [] [] = inl refl
 same_or_not [] (y ∷ ys) = inr (λ wrong. absurd (cc))
 same_or_not (x ∷ xs) [] = inr (λ wrong. absurd (cc))
