@@ -28,7 +28,7 @@ use Rattle.macho_exports.proofs.ExportTries.{head_within, edges_within}
 
 -- A node has a byte or more
 
-node_begins : (trie : List ℕ) (place : ℕ) (node : Node) → node_at trie place ≡ Some node → place < node.end
+pub node_begins : (trie : List ℕ) (place : ℕ) (node : Node) → node_at trie place ≡ Some node → place < node.end
 node_begins trie place node is = by_head (head_at trie place) refl
   where
     whole : (head : ExportNode) (edges : List ExportEdge × ℕ) → head_at trie place ≡ Some head → edges_at head.edge_count trie head.edges ≡ Some edges → edges.1 ≡ node.end
@@ -56,12 +56,12 @@ contains_split (y ∷ ys) x among = elim (first_or_later y x ys among) [
 
 -- Walks in which no node is broken
 
-abbrev AreWhole : List ℕ → List Met → Type 0
+abbrev pub AreWhole : List ℕ → List Met → Type 0
 AreWhole trie nodes = HaveNone (HasNoEnd trie) nodes × HaveNone (PassesTable trie) nodes
 
 module _ (trie : List ℕ) where
   -- a node of such a walk, and the walk that follows
-  whole_step : (m left place : ℕ) (waiting : List ℕ) → AreWhole trie (walk (suc m) trie left (place ∷ waiting))
+  pub whole_step : (m left place : ℕ) (waiting : List ℕ) → AreWhole trie (walk (suc m) trie left (place ∷ waiting))
       → (node : Node) × (node_at trie place ≡ Some node) × (node.end - place ≤ left) × AreWhole trie (walk m trie (left - (node.end - place)) (children node ++ waiting))
   whole_step m left place waiting (ended, kept) = by_node (node_at trie place) refl
     where
@@ -100,7 +100,7 @@ module _ (trie : List ℕ) where
       (n, l, omega (arith, less), more, then)
 
   -- the bytes of a node that is there
-  bytes_at : (place : ℕ) (node : Node) → node_at trie place ≡ Some node → node_bytes trie place ≡ node.end - place
+  pub bytes_at : (place : ℕ) (node : Node) → node_at trie place ≡ Some node → node_bytes trie place ≡ node.end - place
   bytes_at place node at = ap (λ (o : Option Node). option_map_or (λ (n : Node). n.end - place) o 0) at
 
   -- an edge that leads on is one of the node
@@ -116,11 +116,11 @@ module _ (trie : List ℕ) where
         (first ∷ before, after, ap (λ (es : List ExportEdge). first ∷ es) split)
   ]
 
-  abbrev leads_on : ℕ → ℕ → List ℕ → ExportEdge → Option Span
+  abbrev pub leads_on : ℕ → ℕ → List ℕ → ExportEdge → Option Span
   leads_on most left name edge = terminal_from most trie left edge.child (drop edge.label.len name)
 
   -- what a look-up does at a node that fits
-  look_on : (most left place : ℕ) (name : List ℕ) (node : Node) → node_at trie place ≡ Some node → node.end - place ≤ left
+  pub look_on : (most left place : ℕ) (name : List ℕ) (node : Node) → node_at trie place ≡ Some node → node.end - place ≤ left
       → terminal_from (suc most) trie left place name
       ≡ cond (ends name node) (Some node.terminal) (option_and_then (leads_on most (left - (node.end - place)) name) (find (begins_with trie name) node.edges))
   unfolding terminal_from

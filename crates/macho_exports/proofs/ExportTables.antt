@@ -91,7 +91,7 @@ endless_near trie nodes place (met, among, is, has) = omega (arith, is)
 pub node_rule_near : (trie : List ℕ) (P : Met → Node → Type 0) (nodes : List Met) (place : ℕ) → AtMet own_place (λ met. IsSomeAnd (node_at trie met.place) (P met)) nodes place → place ≤ length trie
 node_rule_near trie P nodes place (met, among, is, has) = let near = of_node_near trie P met has in omega (arith, is, near)
 
-fits_up_to : (P : ℕ → Type 0) (start size : ℕ) (found : Option ℕ) → ((place : ℕ) → P place → place ≤ size) → start + size < 2 ^ 64 → IsLeastPlace P found
+pub fits_up_to : (P : ℕ → Type 0) (start size : ℕ) (found : Option ℕ) → ((place : ℕ) → P place → place ≤ size) → start + size < 2 ^ 64 → IsLeastPlace P found
     → IfSome found (λ offset. start + offset < 2 ^ 64)
 fits_up_to P start size None inside fits none = tt
 fits_up_to P start size (Some first) inside fits (here, least) = let within = inside first here in omega (arith, within, fits)

@@ -22,11 +22,11 @@ chosen : {X : Type 0} (b : Bool) (given x : X) → cond b (Some given) None ≡ 
 chosen true given x is = (refl, same_Some given x is)
 chosen false given x is = absurd (cc)
 
-then_some : {X Y : Type 0} (f : X → Option Y) (o : Option X) (y : Y) → option_and_then f o ≡ Some y → (x : X) × (o ≡ Some x) × (f x ≡ Some y)
+pub then_some : {X Y : Type 0} (f : X → Option Y) (o : Option X) (y : Y) → option_and_then f o ≡ Some y → (x : X) × (o ≡ Some x) × (f x ≡ Some y)
 then_some f None y is = absurd (cc)
 then_some f (Some x) y is = (x, refl, is)
 
-made_some : {X Y : Type 0} (f : X → Y) (o : Option X) (y : Y) → option_map f o ≡ Some y → (x : X) × (o ≡ Some x) × (f x ≡ y)
+pub made_some : {X Y : Type 0} (f : X → Y) (o : Option X) (y : Y) → option_map f o ≡ Some y → (x : X) × (o ≡ Some x) × (f x ≡ y)
 made_some f None y is = absurd (cc)
 made_some f (Some x) y is = (x, refl, same_Some (f x) y is)
 

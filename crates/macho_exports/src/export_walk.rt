@@ -8,22 +8,22 @@ use crate::export_trie::{ExportEdge, ExportNode};
 use macho_fields::{Bytes, Span};
 use std::alloc::{AllocError, Global};
 
-// The places of the nodes that are still to be met.
+/// The places of the nodes that are still to be met.
 #[derive(Drop)]
-pub(crate) struct Waiting {
+pub struct Waiting {
     // The next one is the last.
     stack: Vec<u64>,
     // Those to which the edges of a node lead.
     children: Vec<u64>,
 }
 
-// A node that is met.
+/// A node that is met.
 #[derive(Clone, Copy, Debug, PartialEq, Eq)]
-pub(crate) struct MetNode {
-    // The terminal part.
-    pub(crate) terminal: Span,
-    // The place past its last edge.
-    pub(crate) end: u64,
+pub struct MetNode {
+    /// The terminal part.
+    pub terminal: Span,
+    /// The place past its last edge.
+    pub end: u64,
 }
 
 impl Waiting {
@@ -32,8 +32,8 @@ impl Waiting {
     ghost use Rattle.macho_spans.specs.Span.{end_of};
     ghost use Rattle.macho_exports.specs.ExportNodes.{waiting_places, IsNextPlace, IsMetAt};
 
-    // The root alone.
-    pub(crate) fn of_root(alloc: Global) -> Result<Waiting, AllocError>
+    /// The root alone.
+    pub fn of_root(alloc: Global) -> Result<Waiting, AllocError>
         ensures { IfOk result (λ waiting. waiting_places waiting ≡ 0 ∷ []) }
     {
         let mut stack = Vec::new(alloc);
@@ -42,16 +42,16 @@ impl Waiting {
         Ok(Waiting { stack, children })
     }
 
-    // Takes the place of the next one.
-    pub(crate) fn next(&mut self) -> Option<u64>
+    /// Takes the place of the next one.
+    pub fn next(&mut self) -> Option<u64>
         ensures { IsNextPlace (waiting_places self.old) (waiting_places self.new) result }
     {
         self.stack.pop()
     }
 
-    // Reads the node at `place`. Its children are the next ones, in the order of its edges. It is `None` if the
-    // node does not end in the table.
-    pub(crate) fn meet(&mut self, trie: Bytes, place: u64) -> Result<Option<MetNode>, AllocError>
+    /// Reads the node at `place`. Its children are the next ones, in the order of its edges. It is `None` if the
+    /// node does not end in the table.
+    pub fn meet(&mut self, trie: Bytes, place: u64) -> Result<Option<MetNode>, AllocError>
         ensures met { IfOk result (IsMetAt (bytes_of trie.entry) place (waiting_places self.old) (waiting_places self.new)) }
         ensures inside { IfOk result (λ met. IfSome met (λ met.
             (place < met.end) × (end_of met.terminal ≤ length (bytes_of trie.entry)))) }

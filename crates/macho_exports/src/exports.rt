@@ -112,8 +112,8 @@ impl ExportSurvey {
     }
 }
 
-// The lesser of the least place of a rule and this one, if the rule is broken here.
-fn least_with(least: Option<u64>, is_broken: bool, place: u64) -> Option<u64>
+/// The lesser of the least place of a rule and this one, if the rule is broken here.
+pub fn least_with(least: Option<u64>, is_broken: bool, place: u64) -> Option<u64>
     ensures { IsNotedLeast is_broken place least result }
 {
     if is_broken {

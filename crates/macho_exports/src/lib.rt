@@ -3,5 +3,5 @@
 //! (`mach-o/loader.h`)
 
 pub mod export_trie;
-mod export_walk;
+pub mod export_walk;
 pub mod exports;
