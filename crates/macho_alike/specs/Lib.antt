@@ -1,0 +1,6 @@
+pub mod ExportModels
+pub mod Exports
+pub mod Labels
+pub mod Readers
+pub mod SymbolModels
+pub mod Symbols

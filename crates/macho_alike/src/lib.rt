@@ -1,0 +1,11 @@
+#![tactic(auto)]
+//! The unambiguous rules of symbols and exports, one by one, and the readers that they keep alike. Some readers trust the
+//! groups of the symbol table, and others the types of its symbols. Some look a name up in the export trie, and others
+//! list all names.
+
+pub mod exports;
+pub mod law;
+pub mod symbols;
+
+pub use exports::export_edge;
+pub use symbols::symbol_kind;
