@@ -34,8 +34,8 @@ impl Disjoint {
     ghost use Rattle.macho_spans.specs.Span.{IsInside};
     ghost use Rattle.macho_strict.specs.Disjoint.{IsHolding};
 
-    // The spans; each ends where the next one begins, or before.
-    pub(crate) fn new(spans: SpansByStart) -> Disjoint
+    /// The spans; each ends where the next one begins, or before.
+    pub fn new(spans: SpansByStart) -> Disjoint
         requires { AreDisjoint (sorted_spans spans) }
         ensures { result ≡ sorted_spans spans }
     {
@@ -64,9 +64,9 @@ impl Disjoint {
         }
     }
 
-    // The span that holds the place, of places that mostly ascend: the span that held the last place and the one after it are
-    // looked at before all are searched.
-    pub(crate) fn holding_next(&self, place: u64) -> Option<Span>
+    /// The span that holds the place, of places that mostly ascend: the span that held the last place and the one after it
+    /// are looked at before all are searched.
+    pub fn holding_next(&self, place: u64) -> Option<Span>
         ensures { IsHolding self.now place result }
     {
         match self.holding_near(place) {

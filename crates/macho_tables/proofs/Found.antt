@@ -1,7 +1,7 @@
 -- What `any` and `find` return over the commands of an opened image, over its segments, and over the tables of a command.
-use Rattle.std.proofs.Common.{◌≡◌, ◌↔◌, ℕ, ◌+◌, ◌≤◌, ◌<◌, List, [], ◌∷◌, map, length, get_or, All, Any, Contains, Bool, true, false, Option, None, Some, IsTrue, MatchOption, refl, sym, ap, ◌∙◌, subst, le_refl, arith, inl, inr}
+use Rattle.std.proofs.Common.{◌≡◌, ◌==◌, ◌↔◌, ℕ, ◌+◌, ◌≤◌, ◌<◌, List, [], ◌∷◌, map, length, get_or, All, Any, Contains, Bool, true, false, Option, None, Some, IsTrue, MatchOption, refl, sym, ap, ◌∙◌, subst, le_refl, arith, inl, inr}
 use denote.Ref.{Bor}
-use Rattle.std.specs.Prelude.{MatchBool, cond, ⊤}
+use Rattle.std.specs.Prelude.{MatchBool, cond}
 use Rattle.std.specs.Fn.{Mut, Called, CalledAt}
 use Rattle.std.specs.Iterator.{YieldsFirst, YieldsFirstBy, CallableAtEachTurn, ChecksAny, FindsItem}
 use Rattle.std.specs.List.{AllWithin, HoldsAt}
@@ -10,6 +10,7 @@ use Rattle.std.proofs.lemmas.Bool.{cases_order, false≢true}
 use Rattle.std.proofs.lemmas.Iterator.{YieldsList, cases_from_any, first_from_find}
 use Rattle.std.proofs.lemmas.Iterator.Adapters.{serves_from_places}
 use Rattle.std.proofs.lemmas.Iterator.Consumers.{YieldsList-from_first}
+use Rattle.std.proofs.lemmas.Iterator.Search.{find_from_yields_List}
 use Rattle.std.proofs.lemmas.List.Elements.{Contains-get_or}
 use Rattle.macho_fields.specs.FirstPlace.{IsLeastPlace}
 use Rattle.macho_fields.specs.Image.{command_cmd, commands_of}
@@ -20,15 +21,17 @@ use Rattle.macho_fields.specs.declared.load_command.Structure.{Structure}
 use Rattle.macho_fields.specs.declared.load_command.TableFields.{TableFields}
 use Rattle.macho_fields.proofs.Lists.{any_nil, contains_mapped}
 use Rattle.macho_fields.proofs.Opened.{table_fields_inside}
-use Rattle.macho_image.specs.Command.{CommandView, command_of, command_at}
+use Rattle.macho_image.specs.Command.{CommandView, command_of, command_at, first_with_cmd}
 use Rattle.macho_image.specs.Opened.{IsOpened, IsCommandOf}
 use Rattle.macho_image.specs.Segment.{SegmentView, segment_at}
+use Rattle.macho_image.specs.Table.{HaveTables}
 use Rattle.macho_image.specs.declared.command.Command.{Command}
 use Rattle.macho_rules.proofs.Judged.{opened_facts, opened_commands}
-use Rattle.macho_rules.proofs.Searches.{mapped_has, any_of, one_of, ordered_at, Rising}
-use Rattle.macho_rules.proofs.SegmentItems.{AreSegments, segment_of, segment_among}
-use Rattle.macho_strict.proofs.Encryptions.{commands_search}
+use Rattle.macho_rules.proofs.Searches.{mapped_has, any_of, one_of, ordered_at, ordered_map, Rising}
+use Rattle.macho_rules.proofs.SegmentItems.{AreSegments, segment_of, segment_among, commands_rise}
 use Rattle.macho_tables.proofs.HeldSegments.{view_inside}
+use Rattle.macho_tables.proofs.Places.{least_same}
+use Rattle.macho_tables.proofs.Tabled.{NamesTables, is_command, is_tabled, tabled_rise, first_tabled}
 
 -- Items that are read at places
 
@@ -66,64 +69,124 @@ module _ {X : Type 0} (P : X → Type 0) where
 abbrev pub Steps : List CommandView → Option Command → List CommandView → Type 0
 Steps = YieldsFirstBy command_of (λ (left : List CommandView). left)
 
-module _ (image : List ℕ) (opened : IsOpened image) {all : List CommandView} (are : all ≡ map (command_at image) (commands_of image)) where
-  pub commands_yield : YieldsList Steps command_of all all
-  commands_yield = YieldsList-from_first command_of (λ (left : List CommandView). left) all refl
+views_yield : (all : List CommandView) → YieldsList Steps command_of all all
+views_yield all = YieldsList-from_first command_of (λ (left : List CommandView). left) all refl
 
+-- Some of them
+
+module _ (image : List ℕ) (opened : IsOpened image) {all : List CommandView} (among : List ℕ) (within : (p : ℕ) → Contains among p → Contains (commands_of image) p)
+    (are : all ≡ map (command_at image) among) where
   listed : (v : CommandView) → Contains all v → IsCommandOf image v
   listed v has =
-      let (p, among, at) = mapped_has (command_at image) (commands_of image) v (subst (λ these. Contains these v) are has) in
-      subst (IsCommandOf image) at (record { opened = opened; listed = among; same = refl })
+      let (p, has_p, at) = mapped_has (command_at image) among v (subst (λ these. Contains these v) are has) in
+      subst (IsCommandOf image) at (record { opened = opened; listed = within p has_p; same = refl })
 
   -- what a closure may be asked: about commands of the image alone
+  pub each_among : {F : Type 0} {R : F → Command → F → Type 0} {Q : F → Command → Type 0} {f : F} → ((x : Command) (q : F) → R f x q → q ≡ f)
+      → ((x : Command) → IsCommandOf image (command_of x) → Q f x) → CallableAtEachTurn Steps R Q all f
+  each_among stays asks = serves_from_places (views_yield all) stays (λ x k less at. asks x (listed (command_of x) (k, less, sym at)))
+
+  pub any_among : {F : Type 0} {g : Mut F (Command × Unit {0}) Bool} {f : F} {u : List CommandView} (P : CommandView → Type 0) (r : Bool) → ChecksAny Steps g all f r u
+      → ((x : Command) (b : Bool) (q : F) → Called g f (x, tt) b q → (q ≡ f) × (IsTrue b ↔ P (command_of x))) → IsTrue r ↔ Any (λ place. P (command_at image place)) among
+  any_among P r ran says =
+      some_has P (command_at image) among all are r
+      (cases_from_any _ _ r P (λ v. ¬ P v) ran (views_yield all) (λ x q k. (says x true q k).1.0 refl) (λ x q k. let (same, is) = says x false q k in (same, λ has. false≢true (is.1 has))))
+
+  module _ (up : Rising (λ p. p) among) where
+    rise : Rising (λ v. v.place) all
+    rise = subst (Rising (λ v. v.place)) (sym are) (ordered_map (λ (v w : CommandView). v.place ≤ w.place) (command_at image) among up)
+
+    there : (place : ℕ) → Contains among place → Contains all (command_at image place)
+    there place has = subst (λ these. Contains these (command_at image place)) (sym are) (contains_mapped (command_at image) among place has)
+
+    -- the first command with P is at the least place
+    least_of : (P : CommandView → Type 0) (r : Option Command)
+        → MatchOption r (AllWithin (λ v. ¬ P v) all 0 (length all))
+        (λ x. P (command_of x) × (i : ℕ) × (i < length all) × HoldsAt (λ y. y ≡ command_of x) all i × AllWithin (λ v. ¬ P v) all 0 i)
+        → IsLeastPlace (λ place. Contains among place × P (command_at image place)) (option_map (λ (x : Command). x.place) r)
+    least_of P None none = λ place (has, here). none_any P all none (any_of P all (command_at image place) (there place has) here)
+    least_of P (Some x) (here, i, less, at, none) = first (mapped_has (command_at image) among (command_of x) (subst (λ these. Contains these (command_of x)) are (i, less, at (command_of x))))
+      where
+        least : (place : ℕ) → P (command_at image place) → Contains all (command_at image place) → x.place ≤ place
+        least place has (k, inside, is) = elim (cases_order k i) [
+          | inl same ↦
+              let one : command_of x ≡ command_at image place = sym (at (command_at image place)) ∙ (ap (λ j. get_or all j (command_at image place)) (sym same) ∙ is) in
+              subst (λ (v : CommandView). x.place ≤ v.place) one (le_refl x.place)
+          | inr (inl before) ↦ absurd (none k (command_at image place) (omega arith) before (subst P (sym is) has))
+          | inr (inr after) ↦
+              let above = ordered_at (λ (v w : CommandView). v.place ≤ w.place) all (command_at image place) i k rise after inside in
+              subst (λ (v : CommandView). x.place ≤ v.place) is (subst (λ (v : CommandView). v.place ≤ (get_or all k (command_at image place)).place) (at (command_at image place)) above)
+        ]
+
+        first : (p : ℕ) × Contains among p × (command_at image p ≡ command_of x) → (Contains among x.place × P (command_at image x.place)) × ((place : ℕ) → Contains among place × P (command_at image place) → x.place ≤ place)
+        first (p, has_p, is) =
+            let same : p ≡ x.place = ap (λ (v : CommandView). v.place) is in (
+              (subst (Contains among) same has_p, subst (λ q. P (command_at image q)) same (subst P (sym is) here)),
+              λ place (has, that). least place that (there place has),
+            )
+
+    pub first_among : {F : Type 0} {g : Mut F (Bor Command × Unit {0}) Bool} {f : F} (u : List CommandView) (P : CommandView → Type 0) (r : Option Command) → FindsItem Steps g all f r u
+        → ((y : Bor Command) (b : Bool) (q : F) → Called g f (y, tt) b q → (q ≡ f) × (IsTrue b ↔ P (command_of y.now)))
+        → IsLeastPlace (λ place. Contains among place × P (command_at image place)) (option_map (λ (x : Command). x.place) r)
+    first_among {F = F} {g = g} {f = f} u P r ran says = least_of P r (first_from_find _ _ r P (λ v. ¬ P v) ran (views_yield all) (λ x q k. (at x true q k).1.0 refl) (λ x q k. let (same, is) = at x false q k in (same, λ has. false≢true (is.1 has))))
+      where
+        at : (x : Command) (b : Bool) (q : F) → CalledAt g f x b q → (q ≡ f) × (IsTrue b ↔ P (command_of x))
+        at x b q k = let (same, is) = says k.shown b q k.called in (same, subst (λ (y : Command). IsTrue b ↔ P (command_of y)) k.shows is)
+
+-- All commands of the image
+
+module _ (image : List ℕ) (opened : IsOpened image) {all : List CommandView} (are : all ≡ map (command_at image) (commands_of image)) where
+  pub commands_yield : YieldsList Steps command_of all all
+  commands_yield = views_yield all
+
   pub each_command : {F : Type 0} {R : F → Command → F → Type 0} {Q : F → Command → Type 0} {f : F} → ((x : Command) (q : F) → R f x q → q ≡ f)
       → ((x : Command) → IsCommandOf image (command_of x) → Q f x) → CallableAtEachTurn Steps R Q all f
-  each_command stays asks = serves_from_places commands_yield stays (λ x k less at. asks x (listed (command_of x) (k, less, sym at)))
+  each_command stays asks = each_among image opened (commands_of image) (λ p has. has) are stays asks
 
   pub any_command : {F : Type 0} {g : Mut F (Command × Unit {0}) Bool} {f : F} {u : List CommandView} (P : CommandView → Type 0) (r : Bool) → ChecksAny Steps g all f r u
       → ((x : Command) (b : Bool) (q : F) → Called g f (x, tt) b q → (q ≡ f) × (IsTrue b ↔ P (command_of x))) → IsTrue r ↔ Any (λ place. P (command_at image place)) (commands_of image)
-  any_command P r ran says =
-      some_has P (command_at image) (commands_of image) all are r
-      (cases_from_any _ _ r P (λ v. ¬ P v) ran commands_yield (λ x q k. (says x true q k).1.0 refl) (λ x q k. let (same, is) = says x false q k in (same, λ has. false≢true (is.1 has))))
-
-  rise : Rising (λ v. v.place) all
-  rise = (commands_search image all opened are (λ v. ⊤)).rising
-
-  there : (place : ℕ) → Contains (commands_of image) place → Contains all (command_at image place)
-  there place among = subst (λ these. Contains these (command_at image place)) (sym are) (contains_mapped (command_at image) (commands_of image) place among)
-
-  -- the first command with P is at the least place
-  least_of : (P : CommandView → Type 0) (r : Option Command)
-      → MatchOption r (AllWithin (λ v. ¬ P v) all 0 (length all))
-      (λ x. P (command_of x) × (i : ℕ) × (i < length all) × HoldsAt (λ y. y ≡ command_of x) all i × AllWithin (λ v. ¬ P v) all 0 i)
-      → IsLeastPlace (λ place. Contains (commands_of image) place × P (command_at image place)) (option_map (λ (x : Command). x.place) r)
-  least_of P None none = λ place (among, here). none_any P all none (any_of P all (command_at image place) (there place among) here)
-  least_of P (Some x) (here, i, less, at, none) = (
-    (it_is.listed, subst P it_is.same here),
-    λ place (among, has). least place has (there place among),
-  )
-    where
-      it_is : IsCommandOf image (command_of x)
-      it_is = listed (command_of x) (i, less, at (command_of x))
-
-      least : (place : ℕ) → P (command_at image place) → Contains all (command_at image place) → x.place ≤ place
-      least place has (k, within, is) = elim (cases_order k i) [
-        | inl same ↦
-            let one : command_of x ≡ command_at image place = sym (at (command_at image place)) ∙ (ap (λ j. get_or all j (command_at image place)) (sym same) ∙ is) in
-            subst (λ (v : CommandView). x.place ≤ v.place) one (le_refl x.place)
-        | inr (inl before) ↦ absurd (none k (command_at image place) (omega arith) before (subst P (sym is) has))
-        | inr (inr after) ↦
-            let up = ordered_at (λ (v w : CommandView). v.place ≤ w.place) all (command_at image place) i k rise after within in
-            subst (λ (v : CommandView). x.place ≤ v.place) is (subst (λ (v : CommandView). v.place ≤ (get_or all k (command_at image place)).place) (at (command_at image place)) up)
-      ]
+  any_command P r ran says = any_among image opened (commands_of image) (λ p has. has) are P r ran says
 
   pub first_command : {F : Type 0} {g : Mut F (Bor Command × Unit {0}) Bool} {f : F} (u : List CommandView) (P : CommandView → Type 0) (r : Option Command) → FindsItem Steps g all f r u
       → ((y : Bor Command) (b : Bool) (q : F) → Called g f (y, tt) b q → (q ≡ f) × (IsTrue b ↔ P (command_of y.now)))
       → IsLeastPlace (λ place. Contains (commands_of image) place × P (command_at image place)) (option_map (λ (x : Command). x.place) r)
-  first_command {F = F} {g = g} {f = f} u P r ran says = least_of P r (first_from_find _ _ r P (λ v. ¬ P v) ran commands_yield (λ x q k. (at x true q k).1.0 refl) (λ x q k. let (same, is) = at x false q k in (same, λ has. false≢true (is.1 has))))
+  first_command u P r ran says = first_among image opened (commands_of image) (λ p has. has) are (commands_rise image opened) u P r ran says
+
+-- The commands from the first that names a table to the last, and what is said of those that name one
+
+module _ (image : List ℕ) (opened : IsOpened image) {all : List CommandView} (have : HaveTables image all) where
+  pub each_tabled : {F : Type 0} {R : F → Command → F → Type 0} {Q : F → Command → Type 0} {f : F} → ((x : Command) (q : F) → R f x q → q ≡ f)
+      → ((x : Command) → IsCommandOf image (command_of x) → Q f x) → CallableAtEachTurn Steps R Q all f
+  each_tabled stays asks = each_among image opened have.among (is_command image have) have.are stays asks
+
+  module _ (P : CommandView → Type 0) (named : (p : ℕ) → Contains (commands_of image) p → P (command_at image p) → NamesTables (command_cmd image p)) where
+    pub any_tabled : {F : Type 0} {g : Mut F (Command × Unit {0}) Bool} {f : F} {u : List CommandView} (r : Bool) → ChecksAny Steps g all f r u
+        → ((x : Command) (b : Bool) (q : F) → Called g f (x, tt) b q → (q ≡ f) × (IsTrue b ↔ P (command_of x))) → IsTrue r ↔ Any (λ place. P (command_at image place)) (commands_of image)
+    any_tabled r ran says =
+        let some = any_among image opened have.among (is_command image have) have.are P r ran says in (
+          λ is. let (p, has, here) = one_of (λ place. P (command_at image place)) have.among (some.0 is) in any_of (λ place. P (command_at image place)) (commands_of image) p (is_command image have p has) here,
+          λ any. let (p, has, here) = one_of (λ place. P (command_at image place)) (commands_of image) any in
+              some.1 (any_of (λ place. P (command_at image place)) have.among p (is_tabled image have p has (named p has here)) here),
+        )
+
+    pub first_tabled_with : {F : Type 0} {g : Mut F (Bor Command × Unit {0}) Bool} {f : F} (u : List CommandView) (r : Option Command) → FindsItem Steps g all f r u
+        → ((y : Bor Command) (b : Bool) (q : F) → Called g f (y, tt) b q → (q ≡ f) × (IsTrue b ↔ P (command_of y.now)))
+        → IsLeastPlace (λ place. Contains (commands_of image) place × P (command_at image place)) (option_map (λ (x : Command). x.place) r)
+    first_tabled_with u r ran says =
+        least_same (λ place. Contains have.among place × P (command_at image place)) (λ place. Contains (commands_of image) place × P (command_at image place)) (option_map (λ (x : Command). x.place) r)
+        (λ place. (λ (has, here). (is_command image have place has, here), λ (has, here). (is_tabled image have place has (named place has here), here)))
+        (first_among image opened have.among (is_command image have) have.are (tabled_rise image have opened) u P r ran says)
+
+  -- the first with a cmd that names tables
+  pub place_tabled : {F : Type 0} {g : Mut F (Bor Command × Unit {0}) Bool} {f : F} (u : List CommandView) (cmd : ℕ) → NamesTables cmd → (r : Option Command) → FindsItem Steps g all f r u
+      → ((x : Command) (b : Bool) (q : F) → CalledAt g f x b q → (q ≡ f) × (b ≡ (command_of x).cmd == cmd))
+      → option_map (λ (x : Command). x.place) r ≡ first_with_cmd image cmd (commands_of image)
+  place_tabled u cmd names r ran says = places r ∙ (ap (option_map (λ (v : CommandView). v.place)) (find_from_yields_List (λ (v : CommandView). v.cmd == cmd) u _ r ran (views_yield all) says)
+      ∙ first_tabled image have cmd names)
     where
-      at : (x : Command) (b : Bool) (q : F) → CalledAt g f x b q → (q ≡ f) × (IsTrue b ↔ P (command_of x))
-      at x b q k = let (same, is) = says k.shown b q k.called in (same, subst (λ (y : Command). IsTrue b ↔ P (command_of y)) k.shows is)
+      places : (r : Option Command) → option_map (λ (x : Command). x.place) r ≡ option_map (λ (v : CommandView). v.place) (option_map command_of r)
+      places None = refl
+      places (Some x) = refl
 
 -- Segments
 

@@ -6,6 +6,7 @@ pub mod FunctionStarts
 pub mod NamedTables
 pub mod Places
 pub mod HeldSegments
+pub mod Tabled
 pub mod Found
 pub mod SymbolTables
 pub mod Nots
@@ -16,6 +17,7 @@ pub mod Items
 pub mod SegmentWalks
 pub mod DataTables
 pub mod StartNumbers
+pub mod SegmentMemory
 pub mod FileBytes
 pub mod MappedAddresses
 pub mod DataInCode

@@ -11,6 +11,7 @@ pub mod Items
 pub mod DataTables
 pub mod StartNumbers
 pub mod Functions
+pub mod SegmentMemory
 pub mod FileBytes
 pub mod MappedAddresses
 pub mod DataInCode

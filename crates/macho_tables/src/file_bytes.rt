@@ -1,16 +1,13 @@
 //! Which addresses of an image have a byte of the file. (`mach-o/loader.h`: `segment_command_64`)
 
-ghost use Rattle.std.specs.Prelude.{◌≡◌, ◌↔◌, ◌≤◌, ℕ, IsTrue, IfOk, OnErr, None};
-ghost use Rattle.macho_fields.specs.Layers.{NothingBreaks};
-ghost use Rattle.macho_fields.specs.Rules.{BreaksImage as Breaks};
-ghost use Rattle.macho_tables.specs.FileBytes.{HasManySegments, GivesFileBytes};
+ghost use Rattle.std.specs.Prelude.{◌↔◌, IsTrue};
+ghost use Rattle.macho_tables.specs.FileBytes.{HasManySegments};
 ghost use Rattle.macho_tables.specs.StartNumbers.{HasByteAt};
-ghost use Rattle.macho_rules.specs.Mapping.{sources};
-ghost use Rattle.macho_spans.specs.Span.{Holds};
 
+use crate::segment_memory::{Extent, file_memory, memory_of};
 use macho_fields::Span;
 use macho_image::{Image, Segment};
-use macho_rules::{Mapping, Source};
+use macho_strict::Disjoint;
 use std::alloc::{AllocError, Global};
 
 /// How many mapped segments are looked at one after the other. More are sorted by their addresses.
@@ -21,8 +18,8 @@ pub const FEW_SEGMENTS: usize = 16;
 pub(crate) struct FileBytes {
     // Some that have: the file bytes of the segment that had the last address.
     held: Span,
-    // All segments, if there are many.
-    mapping: Option<Mapping>,
+    // All addresses that have one, if there are many segments.
+    many: Option<Disjoint>,
 }
 
 impl FileBytes {
@@ -38,12 +35,12 @@ impl FileBytes {
         ensures bytes { IfOk result (AreFileBytes image.now) }
         ensures memory { OnErr result (HasManySegments image.now) }
     {
-        let mut mapping = None;
+        let mut many = None;
         if has_many_segments(image) {
-            mapping = Some(Mapping::of_image(alloc, image)?);
+            many = Some(memory_of(alloc, image, Extent::File)?);
         }
         let held = Span { start: 0, len: 0 };
-        Ok(FileBytes { held, mapping })
+        Ok(FileBytes { held, many })
     }
 
     // Whether the address has one. Those that are asked for mostly ascend.
@@ -55,8 +52,8 @@ impl FileBytes {
         if self.held.holds(address) {
             return true;
         }
-        if let Some(mapping) = &mut self.mapping {
-            return is_in_file(mapping, address);
+        if let Some(parts) = &self.many {
+            return parts.holding_next(address).is_some();
         }
         self.find(image, address)
     }
@@ -90,26 +87,4 @@ fn has_byte_at(segment: &Segment, address: u64) -> bool
     ensures { IsTrue result ↔ HasByteAt segment.now.image address segment.now.place }
 {
     file_memory(segment).holds(address)
-}
-
-// The addresses of the segment that have bytes of the file.
-fn file_memory(segment: &Segment) -> Span
-    ensures { (address : ℕ) → Holds result address
-        ↔ HasByteAt segment.now.image address segment.now.place }
-{
-    Span {
-        start: segment.vmaddr(),
-        len: segment.vmsize().min(segment.filesize()),
-    }
-}
-
-// Whether a mapping has a byte of the file at the address.
-fn is_in_file(mapping: &mut Mapping, address: u64) -> bool
-    ensures found { IsTrue result ↔ GivesFileBytes (sources mapping.old) address }
-    ensures same { (other : ℕ) → sources mapping.new other ≡ sources mapping.old other }
-{
-    match mapping.source(address) {
-        Some(Source::File(_)) => true,
-        Some(Source::Zero) | None => false,
-    }
 }

@@ -18,7 +18,7 @@ ghost use Rattle.macho_tables.specs.Segments.{IsLinkedit, IsText};
 ghost use Rattle.macho_spans.specs.Span.{Shares};
 
 use crate::kinds::names_linked_data;
-use crate::place::place_of;
+use crate::place::{place_of, table_fields};
 use crate::segment::{is_constant, is_linkedit, is_protected, is_text};
 use macho_fields::header::loader::dysymtab_command::{INDIRECTSYMOFF, NINDIRECTSYMS};
 use macho_fields::header::loader::symtab_command::{NSYMS, STROFF, STRSIZE, SYMOFF};
@@ -26,7 +26,7 @@ use macho_fields::header::loader::{
     INDIRECT_ENTRY_SIZE, LC_DYSYMTAB, LC_ENCRYPTION_INFO_64, LC_SYMTAB, SEGMENT_COMMAND_64_SIZE,
 };
 use macho_fields::header::nlist::NLIST_64_SIZE;
-use macho_fields::{Span, TableFields, Width, structure_of};
+use macho_fields::{Span, TableFields, Width};
 use macho_image::{Command, Image, Segment};
 
 /// The symbols of `LC_SYMTAB`.
@@ -59,7 +59,11 @@ const INDIRECT_TABLE: TableFields = TableFields {
 pub fn table_home(image: &Image) -> Option<u64>
     ensures { IsLeastPlace (BreaksTableHome image.now) result }
 {
-    place_of(image.commands().find(|command| has_lost(image, command)))
+    place_of(
+        image
+            .commands_with_tables()
+            .find(|command| has_lost(image, command)),
+    )
 }
 
 /// The place 0, if the image has no base, or its segment can be written or not be read, or a loader that goes by the
@@ -196,16 +200,6 @@ fn linked_fields(cmd: u32) -> &'static [TableFields]
     }
 }
 
-// The fields that bound the tables of a command with this `cmd`.
-fn table_fields(cmd: u32) -> &'static [TableFields]
-    ensures { result.now ≡ option_map_or fields_of (structure_of cmd) [] }
-{
-    match structure_of(cmd) {
-        Some(structure) => structure.tables(),
-        None => &[],
-    }
-}
-
 // Whether the table that these fields of the command bound has bytes and no home.
 fn is_homeless(image: &Image, command: u64, fields: TableFields) -> bool
     requires place { command + fields.place + width_size fields.width ≤ length image.now }
@@ -238,7 +232,7 @@ pub fn span_of(image: &Image, command: u64, fields: TableFields) -> Span
 fn has_home(image: &Image, table: Span) -> bool
     ensures { IsTrue result ↔ HasHome table image.now }
 {
-    has_linkedit(image) && !has_astray(image, table) && !is_encrypted(image, table)
+    lies_in_linkedit(image, table) && !is_encrypted(image, table)
 }
 
 /// Whether some segment is one in which loaders look for tables.
@@ -248,19 +242,21 @@ pub fn has_linkedit(image: &Image) -> bool
     image.segments().any(|segment| is_linkedit(&segment))
 }
 
-// Whether loaders look for the table in some segment that is not a home of it.
-fn has_astray(image: &Image, table: Span) -> bool
-    ensures { IsTrue result ↔ Any (IsAstray table image.now) (all_segments image.now) }
+// Whether there is a segment in which loaders look for tables, and each such segment is a home of the table.
+fn lies_in_linkedit(image: &Image, table: Span) -> bool
+    ensures { IsTrue result ↔ (Any (IsLinkedit image.now) (all_segments image.now)
+        × ¬ Any (IsAstray table image.now) (all_segments image.now)) }
 {
-    image.segments().any(|segment| is_astray(&segment, table))
-}
-
-// Whether loaders look for the table in the segment, and it is not a home of it.
-fn is_astray(segment: &Segment, table: Span) -> bool
-    requires { segment.now.place + SEGMENT_COMMAND_64_SIZE ≤ length segment.now.image }
-    ensures { IsTrue result ↔ IsAstray table segment.now.image segment.now.place }
-{
-    is_linkedit(segment) && !is_home(segment, table)
+    let mut found = false;
+    for segment in image.segments() {
+        if is_linkedit(&segment) {
+            if !is_home(&segment, table) {
+                return false;
+            }
+            found = true;
+        }
+    }
+    found
 }
 
 /// Whether the segment is a home of the table: mapped, read and not written, not decrypted, with the table
@@ -280,7 +276,7 @@ fn is_encrypted(image: &Image, table: Span) -> bool
     ensures { IsTrue result ↔ Any (Encrypts table image.now) (commands_of image.now) }
 {
     image
-        .commands()
+        .commands_with_tables()
         .any(|command| encrypts(image, &command, table))
 }
 

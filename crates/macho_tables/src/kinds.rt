@@ -19,7 +19,11 @@ use macho_image::{Command, Image};
 pub fn table_repeated(image: &Image) -> Option<u64>
     ensures { IsLeastPlace (BreaksTableRepeated image.now) result }
 {
-    place_of(image.commands().find(|command| repeats(image, command)))
+    place_of(
+        image
+            .commands_with_tables()
+            .find(|command| repeats(image, command)),
+    )
 }
 
 /// The place of the first command with variants of functions, or with what is written for them.
@@ -51,7 +55,7 @@ fn repeats_earlier(image: &Image, command: &Command) -> bool
     ensures { IsTrue result ↔ RepeatsEarlier image.now command.now.place }
 {
     image
-        .commands()
+        .commands_with_tables()
         .any(|earlier| is_repeated(&earlier, command))
 }
 

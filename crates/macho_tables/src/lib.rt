@@ -18,3 +18,4 @@ pub mod numbers;
 pub mod place;
 mod run_bytes;
 pub mod segment;
+mod segment_memory;

@@ -1,13 +1,14 @@
 //! The addresses of an image to which a segment is mapped. (`mach-o/loader.h`: `segment_command_64`)
 
+use crate::segment_memory::{Extent, memory_of};
 use macho_image::Image;
-use macho_rules::Mapping;
+use macho_strict::Disjoint;
 use std::alloc::{AllocError, Global};
 
 /// The addresses of an image to which a segment is mapped.
 #[derive(Drop)]
 pub struct MappedAddresses {
-    mapping: Mapping,
+    memory: Disjoint,
 }
 
 impl MappedAddresses {
@@ -16,22 +17,22 @@ impl MappedAddresses {
     ghost use Rattle.macho_fields.specs.Rules.{BreaksImage as Breaks};
     ghost use Rattle.macho_tables.specs.MappedAddresses.{AreMappedAddresses, IsMapped};
 
-    /// Those of an image that breaks no rule of the layout. They take 48 bytes for each mapped segment.
+    /// Those of an image that breaks no rule of the layout. They take 24 bytes for each segment.
     pub fn of(alloc: Global, image: &Image) -> Result<MappedAddresses, AllocError>
         requires { NothingBreaks (Breaks image.now None) }
         ensures { IfOk result (AreMappedAddresses image.now) }
     {
-        let mapping = Mapping::of_image(alloc, image)?;
-        Ok(MappedAddresses { mapping })
+        let memory = memory_of(alloc, image, Extent::Memory)?;
+        Ok(MappedAddresses { memory })
     }
 
-    /// Whether a segment is mapped to the address.
+    /// Whether a segment is mapped to the address. Those that are asked for mostly ascend.
     pub fn has(&mut self, address: u64) -> bool
         ensures mapped { (image : List ℕ) → AreMappedAddresses image self.old
             → IsTrue result ↔ IsMapped image address }
         ensures same { (image : List ℕ) → AreMappedAddresses image self.old
             → AreMappedAddresses image self.new }
     {
-        self.mapping.source(address).is_some()
+        self.memory.holding_next(address).is_some()
     }
 }

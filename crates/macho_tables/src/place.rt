@@ -1,14 +1,15 @@
 //! The places of commands, segments and sections, and those at which rules are first broken.
 
-ghost use Rattle.std.specs.Prelude.{◌≡◌, ◌+◌, ◌^◌, ◌<◌, unwrap_or, IfSome, IsTrue, Some};
-ghost use Rattle.std.specs.Option.{option_map};
+ghost use Rattle.std.specs.Prelude.{◌≡◌, ◌+◌, ◌^◌, ◌<◌, [], unwrap_or, IfSome, IsTrue, Some};
+ghost use Rattle.std.specs.Option.{option_map, option_map_or};
 ghost use Rattle.macho_fields.specs.FirstPlace.{IsNoted};
 ghost use Rattle.macho_fields.specs.Image.{commands_of};
+ghost use Rattle.macho_fields.specs.LoadCommands.{structure_of, table_fields as fields_of};
 ghost use Rattle.macho_image.specs.Command.{first_with_cmd};
 ghost use Rattle.macho_tables.specs.Places.{dyld_info as dyld_info_of, lesser as lesser_of, bounded_at as bounded_at_of};
 
 use macho_fields::header::loader::{LC_DYLD_INFO, LC_DYLD_INFO_ONLY};
-use macho_fields::{TableFields, Width};
+use macho_fields::{TableFields, Width, structure_of};
 use macho_image::{Command, Image, Section, Segment};
 
 /// The place of a command, if there is one.
@@ -51,11 +52,26 @@ pub fn dyld_info(image: &Image) -> Option<u64>
     }
 }
 
-/// The place of the first command with this `cmd`, if there is one.
+/// The place of the first command with this `cmd`, if there is one. One that names a table is looked for from the first
+/// command that names one to the last.
 pub fn first_place(image: &Image, cmd: u32) -> Option<u64>
     ensures { result ≡ first_with_cmd image.now cmd (commands_of image.now) }
 {
-    place_of(image.first_command(cmd))
+    if table_fields(cmd).is_empty() {
+        return place_of(image.first_command(cmd));
+    }
+    let mut commands = image.commands_with_tables();
+    place_of(commands.find(|command| command.cmd == cmd))
+}
+
+// The fields that bound the tables of a command with this `cmd`.
+pub(crate) fn table_fields(cmd: u32) -> &'static [TableFields]
+    ensures { result.now ≡ option_map_or fields_of (structure_of cmd) [] }
+{
+    match structure_of(cmd) {
+        Some(structure) => structure.tables(),
+        None => &[],
+    }
 }
 
 /// The fields that bound a table of bytes: that at `place` with its start, and its size just past it.

@@ -25,7 +25,7 @@ returns-clause-same c =
     let (here, same, has) = match_some _ _ _ found c.in-Some.segment c.in-Some.is in
     record {
       held = λ address holds.
-          let byte = subst (λ (bytes : List ℕ). HasByteAt bytes address c.in-Some.segment.place) same ((c.file_memory-self.ensures address).0 holds) in
+          let byte = subst (λ (bytes : List ℕ). HasByteAt bytes address c.in-Some.segment.place) same ((c.file_memory-self.ensures.bytes address).0 holds) in
           any_of (HasByteAt image address) (all_segments image) c.in-Some.segment.place has byte;
-      mapping = c.requires.mapping;
+      many = c.requires.many;
     }

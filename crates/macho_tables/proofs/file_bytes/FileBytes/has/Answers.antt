@@ -1,29 +1,18 @@
-use Rattle.std.proofs.Common.{◌≡◌, List, ℕ, Option, Some, IfSome, refl, sym, subst}
-use Rattle.macho_fields.specs.Segment.{Source, IsAtAddress}
-use Rattle.macho_rules.specs.Mapping.{sources, GivesSources}
-use Rattle.macho_rules.specs.declared.mapping.Mapping.{Mapping}
-use Rattle.macho_tables.proofs.FileBytes.{mapped_byte}
+use Rattle.std.proofs.Common.{List, Option, IfSome, refl, subst}
+use Rattle.macho_spans.specs.declared.span.Span.{Span}
+use Rattle.macho_tables.specs.SegmentMemory.{HoldMemory}
+use Rattle.macho_tables.specs.declared.segment_memory.Extent.TheVariants as extents
+use Rattle.macho_tables.proofs.SegmentMemory.{held_if_some, file_address}
 use Rattle.macho_tables.proofs.file_bytes.FileBytes.has.Goals as goal
 
 pub returns-then-holds-clause-found : goal.returns-then-holds-clause-found
 returns-then-holds-clause-found c = (λ _. c.requires.held c.args.address (c.holds.ensures.0 c.if-holds.true), λ _. refl)
 
--- what the mapping gives
-gives_in : (image : List ℕ) (o : Option Mapping) (m : Mapping) → o ≡ Some m → IfSome o (λ mapping. GivesSources image (sources mapping)) → GivesSources image (sources m)
-gives_in image o m is gives = subst (λ (p : Option Mapping). IfSome p (λ mapping. GivesSources image (sources mapping))) is gives
-
 pub returns-in-Some-clause-found : goal.returns-in-Some-clause-found
 returns-in-Some-clause-found c =
-    let given = sources c.in-Some.mapping in
-    let gives = gives_in c.args.image.now c.args.self.now.mapping c.in-Some.mapping c.in-Some.is c.requires.mapping in
-    let same = mapped_byte c.args.image.now c.args.address given (gives c.args.address) in
-    (λ is. same.0 (c.is_in_file.ensures.found.0 is), λ any. c.is_in_file.ensures.found.1 (same.1 any))
-
-pub returns-in-Some-clause-same : goal.returns-in-Some-clause-same
-returns-in-Some-clause-same c =
     let image = c.args.image.now in
-    let gives = gives_in image c.args.self.now.mapping c.in-Some.mapping c.in-Some.is c.requires.mapping in
-    record {
-      held = c.requires.held;
-      mapping = λ address. subst (λ (given : Option Source). IsAtAddress image address given) (sym (c.is_in_file.ensures.same address)) (gives address);
-    }
+    let hold = subst (λ (many : Option (List Span)). IfSome many (HoldMemory extents.File image)) c.in-Some.is c.requires.many in
+    let held = held_if_some c.in-Some.parts c.args.address c.holding_next.result c.holding_next.ensures c.is_some.result c.is_some.ensures in
+    let same = hold c.args.address in
+    let file = file_address image c.args.address in
+    (λ is. file.0 (same.0 (held.0 is)), λ any. held.1 (same.1 (file.1 any)))

@@ -1,14 +1,8 @@
-use Rattle.std.proofs.Common.{Option, sym, subst}
-use Rattle.macho_fields.specs.Segment.{Source, IsAtAddress}
-use Rattle.macho_tables.proofs.MappedAddresses.{mapped_if_some}
+use Rattle.macho_tables.proofs.SegmentMemory.{held_if_some}
 use Rattle.macho_tables.proofs.mapped_addresses.MappedAddresses.has.Goals as goal
 
 pub returns-clause-mapped : goal.returns-clause-mapped
 returns-clause-mapped c image are =
-    mapped_if_some image c.args.address _ c.source.result (subst (λ (given : Option Source). IsAtAddress image c.args.address given) (sym c.source.ensures.source) (are.mapping c.args.address)) c.is_some.result c.is_some.ensures
-
-pub returns-clause-same : goal.returns-clause-same
-returns-clause-same c image are = record {
-  mapping = λ address. subst (λ (given : Option Source). IsAtAddress image address given) (sym (c.source.ensures.same address)) (are.mapping address);
-  near = are.near;
-}
+    let held = held_if_some c.args.self.now.memory c.args.address c.holding_next.result c.holding_next.ensures c.is_some.result c.is_some.ensures in
+    let same = are.memory c.args.address in
+    (λ is. same.0 (held.0 is), λ mapped. held.1 (same.1 mapped))

@@ -3,6 +3,6 @@ use Rattle.macho_tables.proofs.mapped_addresses.MappedAddresses.of.Goals as goal
 
 pub returns : goal.returns
 returns c = record {
-  mapping = c.in_ok-mapping.ensures.sources;
+  memory = c.in_ok-memory.ensures;
   near = mapped_near c.args.image.now c.requires;
 }
