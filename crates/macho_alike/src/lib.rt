@@ -1,7 +1,7 @@
 #![tactic(auto)]
-//! The unambiguous rules of symbols and exports, one by one, and the readers that they keep alike. Some readers trust the
-//! groups of the symbol table, and others the types of its symbols. Some look a name up in the export trie, and others
-//! list all names.
+//! Rules of symbols and exports, one by one, and the readers that they keep alike. Some readers trust the groups of the
+//! symbol table, and others the types of its symbols. Some look a name up in the export trie, and others list all names.
+//! No profile judges these rules yet.
 
 pub mod exports;
 pub mod law;

@@ -1,10 +1,10 @@
 #![tactic(auto)]
 //! What a code signature says of a program, and the rules under which all its readers see the same: which blob is in
-//! a slot, and what the code directories say.
+//! a slot, and what the code directories say. No profile judges these rules yet.
 
 pub mod directory_agree;
-pub mod header;
-pub mod identity;
+mod header;
+mod identity;
 pub mod law;
 pub mod signature_slot;
-pub mod slots;
+mod slots;

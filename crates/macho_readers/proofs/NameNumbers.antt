@@ -89,7 +89,7 @@ pub same_short : (image : List ℕ) → ((k : ℕ) → slice_index image k < 256
 same_short image fits one other =
     same_name (short_name image one) (short_name image other) (name_digits image one fits) (name_digits image other fits)
 
--- The number of the bytes that were passed, none of which is zero
+-- The number of the bytes that were passed, where each is more than zero
 
 pub record Passed (bytes : List ℕ) (k number : ℕ) : Type 0 where
   pub is : number ≡ number_of (take k bytes)
