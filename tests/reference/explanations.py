@@ -1262,16 +1262,16 @@ def number_shift(image: Any, place: int) -> Explanation:
                      and command.cmd != oracle.LC_LAZY_LOAD_DYLIB)
         second = command_part(image, later.place)
         return of_command(image, place, command_part(image, place), second, little(image.data, place), later.cmd)
-    if own.vmsize:
-        number, run = segment_index(image, own), run_number(image, own)
-        if number != run:
-            return of_command(image, place, memory_part(image, own), NONE, number, run)
-        first = next(iter(own.sections), None)
-        if first is None:
-            return of_command(image, place, memory_part(image, own), NONE, own.vmaddr, 0)
-        return of_command(image, place, memory_part(image, own), section_memory(image, first), own.vmaddr, first.addr)
-    later = next(it for it in image.segments if it.place > place and oracle.is_writable(it))
-    return of_command(image, place, memory_part(image, own), memory_part(image, later), own.vmsize, later.vmsize)
+    later = next((it for it in image.segments if it.place > place and oracle.is_writable(it)), None)
+    if later and not own.vmsize:
+        return of_command(image, place, memory_part(image, own), memory_part(image, later), own.vmsize, later.vmsize)
+    number, run = segment_index(image, own), run_number(image, own)
+    if number != run:
+        return of_command(image, place, memory_part(image, own), NONE, number, run)
+    first = next(iter(own.sections), None)
+    if first is None:
+        return of_command(image, place, memory_part(image, own), NONE, own.vmaddr, 0)
+    return of_command(image, place, memory_part(image, own), section_memory(image, first), own.vmaddr, first.addr)
 
 
 def run_number(image: Any, own: Any) -> int:

@@ -139,7 +139,7 @@ def number_shift(it: Teller) -> Story:
             "readers that count all segments", f"{it.second} as number {it.second_part.index}").read_as(
             "readers that count those that are mapped", f"{it.second} by a lower number")
     by_segments, by_sections = "readers that count segments", "readers that count runs of sections"
-    if not it.second and it.value == it.first_part.start:
+    if not it.second and it.value == it.first_part.start and not it.limit:
         return it.story(f"{it.first} takes fixups and has no section, and some readers know segments by their sections.",
                         "vmaddr").read_as(by_segments, f"offsets in fixups from {it.value:#x} on").read_as(
             by_sections, "offsets in another segment")

@@ -68,10 +68,11 @@ module _ (image : List ℕ) (few : ¬ IsUncounted image) (n : ℕ) (late : rank 
   opened : IsOpened image
   opened = has_opened image (λ r place less broken. kept r place (omega (arith, less, late)) broken)
 
-  segment_listed : (s : ℕ) → Contains (all_segments image) s → (k : ℕ) × (slice_get (all_segment_loads image) k ≡ Some s)
+  pub segment_listed : (s : ℕ) → Contains (all_segments image) s → (k : ℕ) × (slice_get (all_segment_loads image) k ≡ Some s)
   segment_listed s has = let (k, at) = of_contains (all_segments image) s has in (k, ap (λ xs. slice_get xs k) (segments_wanted image opened) ∙ at)
 
-  command : (place : ℕ) → Contains (commands_of image) place → HasCommand image place
+  -- a command is there
+  pub command : (place : ℕ) → Contains (commands_of image) place → HasCommand image place
   command place has = let (k, at) = of_contains (commands_of image) place has in (few, k, ap (λ xs. slice_get xs k) (all_wanted image opened) ∙ at)
 
   -- a segment is there

@@ -23,3 +23,6 @@ pub mod SymbolsAt
 pub mod EntryPages
 pub mod Walked
 pub mod Wholes
+pub mod Begins
+pub mod Numbered
+pub mod BrokenReaders

@@ -1,9 +1,9 @@
 -- The load commands of any bytes lie one behind the other.
-use Rattle.std.proofs.Common.{◌≡◌, ◌∙◌, ℕ, zero, suc, ◌+◌, ◌-◌, ◌*◌, ◌≤◌, ◌<◌, List, [], ◌∷◌, Bool, true, ◌==◌, filter, ◌⊎◌, inl, inr, refl, sym, ap, arith, subst}
+use Rattle.std.proofs.Common.{◌≡◌, ◌∙◌, ℕ, zero, suc, ◌+◌, ◌-◌, ◌*◌, ◌%◌, ◌≤◌, ◌<◌, List, [], ◌∷◌, length, Bool, true, ◌==◌, filter, ◌⊎◌, inl, inr, refl, sym, ap, arith, subst}
 use Rattle.std.specs.Prelude.{slice_get, Some, None, nat_le, ◌&&◌}
-use Rattle.std.proofs.lemmas.Bool.{cases_Bool, cases_lt, and_from, and_parts, le-leb, leb-true}
+use Rattle.std.proofs.lemmas.Bool.{cases_Bool, cases_lt, cases_order, and_from, and_parts, eqb-true, le-leb, leb-true, lt-ltb}
 use Rattle.std.proofs.lemmas.Option.{same_Some}
-use Rattle.macho_fields.specs.Image.{command_cmd, command_size, command_count}
+use Rattle.macho_fields.specs.Image.{command_cmd, command_size, command_count, commands_end}
 use Rattle.macho_fields.specs.Segment.{nsects}
 use Rattle.macho_fields.specs.declared.header.loader.TheConstants as loader
 use Rattle.macho_rows.specs.Loads.{is_command, is_segment, is_wanted, commands_from}
@@ -12,7 +12,8 @@ use Rattle.macho_rows.specs.Sections.{nsects_at}
 use Rattle.macho_spans.specs.Span.{Covers}
 use Rattle.macho_explain.specs.Commanded.{HasEarlier, HasSection}
 use Rattle.macho_explain.specs.Compared.{HasCommand}
-use Rattle.macho_explain.specs.Explain.{all_loads, all_segment_loads, IsUncounted, IsWalked, Meets, NoneMeetsBefore}
+use Rattle.macho_explain.specs.Explain.{all_loads, all_segment_loads, long_at, IsFirstOf, IsUncounted, IsWalked, Meets, NoneMeetsBefore}
+use Rattle.macho_explain.specs.Readers.{first_address}
 use Rattle.macho_explain.specs.declared.walk.Sought.{Sought}
 use Rattle.macho_explain.specs.declared.walk.Sought.TheVariants as sought
 use Rattle.macho_explain.specs.declared.walk.Walked.{Walked}
@@ -199,3 +200,43 @@ pub no_earlier : (image : List ℕ) (place : ℕ) (which : Sought) (P : ℕ → 
 no_earlier image place which P walked is meets (inl none) (has, (k, earlier, at, less, passes)) =
     none k earlier (earlier_index image k walked.index earlier walked.load.place at is.listed (omega (arith, less, is.meets))) at (meets earlier passes)
 no_earlier image place which P walked is meets (inr uncounted) (has, earlier) = has.0 uncounted
+
+-- a segment lies in the image, with its sections
+pub segment_inside : (image : List ℕ) (k segment : ℕ) → slice_get (all_segment_loads image) k ≡ Some segment → segment + 72 + 80 * nsects image segment ≤ length image
+segment_inside image k segment at =
+    let (i, there, is) = kept (is_segment image) (commands_from image 32 (command_count image - 0)) k segment at in
+    let walked = step image 32 (command_count image - 0) i segment there in
+    let whole : 72 + 80 * nsects image segment ≤ command_size image segment =
+    leb-true (72 + 80 * nsects image segment) (command_size image segment) (and_parts (command_cmd image segment == loader.LC_SEGMENT_64) (nat_le (72 + 80 * nsects image segment) (command_size image segment)) is).1 in
+    let inside = nat_le (commands_end image) (length image) in
+    let head = nat_le (segment + 8) (commands_end image) in
+    let even = command_size image segment % 8 == 0 in
+    let least = nat_le 8 (command_size image segment) in
+    let (rest, last) = and_parts (inside && head && even && least) (nat_le (segment + command_size image segment) (commands_end image)) walked.is in
+    let ends : segment + command_size image segment ≤ commands_end image = leb-true (segment + command_size image segment) (commands_end image) last in
+    let within : commands_end image ≤ length image =
+    leb-true (commands_end image) (length image) (and_parts inside head (and_parts (inside && head) even (and_parts (inside && head && even) least rest).0).0).0 in
+    omega (arith, whole, ends, within)
+
+pub segment_cmd : (image : List ℕ) (k segment : ℕ) → slice_get (all_segment_loads image) k ≡ Some segment → command_cmd image segment ≡ loader.LC_SEGMENT_64
+segment_cmd image k segment at =
+    let (i, there, is) = kept (is_segment image) (commands_from image 32 (command_count image - 0)) k segment at in
+    eqb-true (command_cmd image segment) loader.LC_SEGMENT_64
+    (and_parts (command_cmd image segment == loader.LC_SEGMENT_64) (nat_le (72 + 80 * nsects image segment) (command_size image segment)) is).0
+
+-- there is one first
+pub only_first : (places : List ℕ) (P : ℕ → Type 0) (a b : ℕ) → IsFirstOf places P a → IsFirstOf places P b → a ≡ b
+only_first places P a b one other = elim (cases_order one.index other.index) [
+  | inl same ↦ same_Some a b (sym one.listed ∙ (ap (slice_get places) same ∙ other.listed))
+  | inr (inl less) ↦ absurd (other.first one.index a less one.listed one.has)
+  | inr (inr more) ↦ absurd (one.first other.index b more other.listed other.has)
+]
+
+-- the address of the first section of a segment
+pub first_none : (image : List ℕ) (segment : ℕ) → nsects image segment ≡ 0 → 0 ≡ first_address image segment
+first_none image segment none = rw none refl
+
+pub first_some : (image : List ℕ) (k segment : ℕ) → slice_get (all_segment_loads image) k ≡ Some segment → 0 < nsects image segment → long_at image (segment + 72 + 32) ≡ first_address image segment
+first_some image k segment at some =
+    let inside = segment_inside image k segment at in
+    rw (lt-ltb 0 (nsects image segment) some) (rw (le-leb (segment + 72 + 32 + 8) (length image) (omega (arith, inside, some))) refl)

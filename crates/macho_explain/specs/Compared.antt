@@ -1,6 +1,6 @@
 -- What an explanation has of each rule: the numbers that the rule compares, and of overlaps what both parts
 -- share. (docs/reference/explain.md)
-use Rattle.std.specs.Prelude.{◌≡◌, ℕ, ◌+◌, ◌-◌, ◌*◌, ◌/◌, ◌%◌, ◌^◌, ◌≢◌, ◌≤◌, ◌<◌, ◌⊎◌, min, take, List, [], Any, length, Option, Some, MatchOption, IsSomeAnd, slice_get, true}
+use Rattle.std.specs.Prelude.{◌≡◌, ℕ, ◌+◌, ◌-◌, ◌*◌, ◌/◌, ◌%◌, ◌^◌, ◌≢◌, ◌≤◌, ◌<◌, ◌⊎◌, take, List, [], Any, length, Option, Some, MatchOption, IsSomeAnd, slice_get, true}
 use Rattle.std.specs.Option.{option_map, option_map_or}
 use Rattle.macho_fields.specs.Image.{command_cmd, command_size, commands_of}
 use Rattle.macho_fields.specs.LoadCommands.{structure_of, table_fields, indirect_table}
@@ -39,9 +39,9 @@ use Rattle.macho_image.specs.Symbol.{dysymtab_at, symbol_at}
 use Rattle.macho_explain.specs.Commanded.{HasEarlier, HasSection, HasWalkEnd, IsGroupPast, field_shown, group_shown, obsolete_counts}
 use Rattle.macho_explain.specs.Elements.{HasOverlap}
 use Rattle.macho_explain.specs.Entries.{HasEntry, HasEntryWith, HasForeign}
-use Rattle.macho_explain.specs.Explain.{all_loads, all_segment_loads, memory_of, IsCommandAt, IsUncounted, long_at, word_at}
+use Rattle.macho_explain.specs.Explain.{all_loads, all_segment_loads, memory_of, IsCommandAt, IsUncounted, long_at, word_at, written}
 use Rattle.macho_explain.specs.Parts.{IsBefore, Share}
-use Rattle.macho_explain.specs.Readers.{big_word_at, HasLaterLibrary, HasLaterSegment, IsBadStartShown, IsKindShown, IsNameShown, IsNamesShown, IsOfSameKind, IsOffItsPages, IsPageShown, IsProcessorShown, IsProtectionShown, IsUnevenShown}
+use Rattle.macho_explain.specs.Readers.{big_word_at, HasLaterLibrary, HasLaterSegment, IsBadStartShown, IsEncryptedShown, IsKindShown, IsNameShown, IsNamesShown, IsOfSameKind, IsOffItsPages, IsPageShown, IsProcessorShown, IsProtectionShown, IsShiftShown, IsTakenShown, IsUnevenShown}
 use Rattle.macho_explain.specs.Seals.{HasOtherHashes, IsRepeatShown, ShowsHash}
 use Rattle.macho_explain.specs.Signatures.{IsBlobShown, IsLimitShown, IsSuperblobShown, IsUnsoundShown, ShowsSignature}
 use Rattle.macho_signature.specs.Signature.{bytes_at}
@@ -55,10 +55,6 @@ use Rattle.macho_explain.specs.Symbols.{HasSymbol}
 use Rattle.macho_explain.specs.Wholes.{named_table, Opens, InWhole, InTable}
 use Rattle.macho_rows.specs.Segments.{last_address}
 use Rattle.macho_explain.specs.declared.conflict.Conflict.{Conflict}
-
--- a number as it is written: the largest of 64 bits where it has more
-abbrev pub written : ℕ → ℕ
-written number = min number (2 ^ 64 - 1)
 
 -- The addresses of the section are not those of its segment: it begins before, or ends past them.
 abbrev pub ShowsOutsideMemory : List ℕ → ℕ → ℕ → ℕ → ℕ → Type 0
@@ -435,8 +431,8 @@ shown rule.CommandOnce = OfImage (λ image place. HasCommand image place × HasE
 shown rule.SegmentName = OfImage (λ image place. HasSegment image place × Opens image) IsNameShown
 shown rule.SegmentPage = OfImage HasSegment IsUnevenShown
 shown rule.SegmentProtection = OfImage HasSegment IsProtectionShown
-shown rule.BytesEncrypted = OfImage (λ image place. HasSegment image place ⊎ (HasCommand image place × (command_cmd image place ≡ loader.LC_ENCRYPTION_INFO_64))) (λ image place c. (c.limit ≡ 0) ⊎ (c.limit ≡ loader.SG_PROTECTED_VERSION_1))
-shown rule.NumberShift = OfImage (λ image place. (HasSegment image place × HasLaterSegment image place) ⊎ ((HasCommand image place × ¬ HasSegment image place) × HasLaterLibrary image place)) (λ image place c. Unit {0})
+shown rule.BytesEncrypted = OfImage (λ image place. HasSegment image place ⊎ (HasCommand image place × (command_cmd image place ≡ loader.LC_ENCRYPTION_INFO_64))) IsEncryptedShown
+shown rule.NumberShift = OfImage (λ image place. (HasSegment image place × (HasLaterSegment image place ⊎ Opens image)) ⊎ ((HasCommand image place × ¬ HasSegment image place) × HasLaterLibrary image place)) IsShiftShown
 shown rule.SectionName = OfImage (λ image place. Opens image × HasSection image place) IsNamesShown
-shown rule.SectionAlone = OfImage (λ image place. Opens image × HasSection image place) (λ image place c. Share c ⊎ (c.limit ≡ 0))
+shown rule.SectionAlone = OfImage (λ image place. Opens image × HasSection image place) IsTakenShown
 shown rule.EntryOne = OfImage HasCommand IsBadStartShown

@@ -1,12 +1,12 @@
 -- What explains a refusal: what is at the place, and the numbers that a rule compares. (kesvuot.h: struct
 -- kesvuot_explanation)
-use Rattle.std.specs.Prelude.{◌≡◌, ℕ, ◌+◌, ◌*◌, ◌^◌, ◌≤◌, ◌<◌, ◌⊎◌, ◌==◌, if◌then◌else◌, List, length, map, take, Option, Some, IfSome, slice_get, true}
+use Rattle.std.specs.Prelude.{◌≡◌, ℕ, ◌+◌, ◌-◌, ◌*◌, ◌^◌, ◌≤◌, ◌<◌, ◌⊎◌, ◌==◌, min, if◌then◌else◌, List, length, map, take, Option, Some, IfSome, slice_get, true}
 use Rattle.std.specs.List.{sum_by}
 use Rattle.std.specs.Option.{unwrap_or}
 use Rattle.macho_fields.specs.Field.{field}
 use Rattle.macho_fields.specs.Image.{command_cmd, command_size, commands_of}
 use Rattle.macho_image.specs.Segment.{maxprot, reserved1, reserved2}
-use Rattle.macho_fields.specs.Segment.{vmaddr, vmsize, fileoff, filesize, initprot, section_address, section_size, section_offset, section_flags, reloff, nreloc}
+use Rattle.macho_fields.specs.Segment.{vmaddr, vmsize, fileoff, filesize, initprot, nsects, section_address, section_size, section_offset, section_flags, reloff, nreloc}
 use Rattle.macho_fields.specs.Universal.{FileSlice}
 use Rattle.macho_fields.specs.declared.bytes.Order.TheVariants.{Little}
 use Rattle.macho_fields.specs.declared.load_command.TableFields.{TableFields}
@@ -42,6 +42,10 @@ word_at image place = unwrap_or (field Little 4 image place) 0
 abbrev pub long_at : List ℕ → ℕ → ℕ
 long_at image place = unwrap_or (field Little 8 image place) 0
 
+-- a number as it is written: the largest of 64 bits where it has more
+abbrev pub written : ℕ → ℕ
+written number = min number (2 ^ 64 - 1)
+
 -- the platform whose versions a command has, if it has some (build_version_command: platform at 8)
 abbrev pub platform_shown : List ℕ → ℕ → Option ℕ
 platform_shown image command =
@@ -59,6 +63,26 @@ all_loads image = wanted_left wanted.All image first_cursor
 -- those that are segments, and hold their sections
 abbrev pub all_segment_loads : List ℕ → List ℕ
 all_segment_loads image = wanted_left wanted.Segments image first_cursor
+
+-- the command is one of these
+abbrev pub IsSegment : List ℕ → ℕ → Type 0
+IsSegment image segment = (k : ℕ) × (slice_get (all_segment_loads image) k ≡ Some segment)
+
+-- the first with P of some places, in their order
+pub record IsFirstOf (places : List ℕ) (P : ℕ → Type 0) (place : ℕ) : Type 0 where
+  pub index : ℕ
+  pub listed : slice_get places index ≡ Some place
+  pub has : P place
+  pub first : (k earlier : ℕ) → k < index → slice_get places k ≡ Some earlier → ¬ P earlier
+
+-- the addresses of a segment
+abbrev pub memory_of : List ℕ → ℕ → Span
+memory_of image segment = record { start = vmaddr image segment; len = vmsize image segment }
+
+-- the segment is mapped, and the image begins with its bytes: its first address is the base
+abbrev pub HasBase : List ℕ → ℕ → Type 0
+HasBase image segment =
+    (fileoff image segment ≡ 0) × (0 < filesize image segment) × (0 < vmsize image segment)
 
 -- how many sections the first of them have, so many
 abbrev pub sections_before : List ℕ → ℕ → ℕ
@@ -136,10 +160,6 @@ pub record IsWalked (image : List ℕ) (which : Sought) (walked : Walked) : Type
 abbrev pub IsOfBytes : TableFields → Type 0
 IsOfBytes fields = (fields.width ≡ Uint32) × (fields.item_size ≡ 1)
 
--- the addresses of a segment
-abbrev pub memory_of : List ℕ → ℕ → Span
-memory_of image segment = record { start = vmaddr image segment; len = vmsize image segment }
-
 -- the fields of the segment that is found
 pub record IsSegmentRow (image : List ℕ) (segment : SegmentAt) : Type 0 where
   pub start : segment.row.vmaddr ≡ vmaddr image segment.place
@@ -149,12 +169,12 @@ pub record IsSegmentRow (image : List ℕ) (segment : SegmentAt) : Type 0 where
   pub file_size : segment.row.filesize ≡ filesize image segment.place
   pub maxprot : segment.row.maxprot ≡ maxprot image segment.place
   pub initprot : segment.row.initprot ≡ initprot image segment.place
+  pub sections : segment.row.section_count ≡ nsects image segment.place
 
 -- the segment whose command is at a place is one that is sought
 abbrev pub MeetsSegment : List ℕ → SegmentWith → ℕ → Type 0
 MeetsSegment image (with.Command place) segment = segment ≡ place
-MeetsSegment image with.Base segment =
-    (fileoff image segment ≡ 0) × (0 < filesize image segment) × (0 < vmsize image segment)
+MeetsSegment image with.Base segment = HasBase image segment
 MeetsSegment image with.Start segment = (fileoff image segment ≡ 0) × (0 < vmsize image segment)
 MeetsSegment image (with.Address address) segment = Holds (memory_of image segment) address
 MeetsSegment image (with.FileByte place) segment = Holds (bytes_of_segment image segment) place
@@ -170,10 +190,12 @@ NoSegmentMeets image wanted =
     (k segment : ℕ) → slice_get (all_segment_loads image) k ≡ Some segment
     → ¬ MeetsSegment image wanted segment
 
--- the segment that is sought, with its fields
+-- the first segment that is sought, with its fields
 pub record IsSegmentFound (image : List ℕ) (wanted : SegmentWith) (segment : SegmentAt) : Type 0 where
   pub row : IsSegmentRow image segment
   pub meets : MeetsSegment image wanted segment.place
+  pub first : IsFirstOf (all_segment_loads image) (MeetsSegment image wanted) segment.place
+  pub near : segment.place < 2 ^ 33
 
 -- the fields of the section that is found
 pub record IsSectionRow (image : List ℕ) (section : SectionAt) : Type 0 where
@@ -186,6 +208,11 @@ pub record IsSectionRow (image : List ℕ) (section : SectionAt) : Type 0 where
   pub reserved1 : section.row.reserved1 ≡ reserved1 image section.place
   pub reserved2 : section.row.reserved2 ≡ reserved2 image section.place
 
+-- the section is one of a command
+abbrev pub IsSectionOf : List ℕ → ℕ → ℕ → Type 0
+IsSectionOf image command section =
+    (nth : ℕ) × (nth < nsects_at image command) × (section ≡ command + 72 + 80 * nth)
+
 -- the structure of the nth section of a command has the byte at the place
 abbrev pub IsNthSection : List ℕ → ℕ → ℕ → ℕ → Type 0
 IsNthSection image command nth place =
@@ -197,4 +224,4 @@ pub record IsSectionFound (image : List ℕ) (place : ℕ) (section : SectionAt)
   pub at : IfSome section.index (λ index. IsSectionAt image index place)
   pub from : section.place ≤ place
   pub to : place < section.place + 80
-  pub start : (nth : ℕ) × (section.place ≡ section.segment + 72 + 80 * nth)
+  pub start : IsSectionOf image section.segment section.place

@@ -1,7 +1,7 @@
--- What a rule of linked data is about is there, where an image that breaks no rule of the layout breaks the rule.
+-- What a rule is about is there, where a file, or an image, that breaks no rule of the layout breaks the rule.
 use Rattle.std.specs.Prelude.{ℕ, List, None}
 use Rattle.macho_fields.specs.Layers.{NothingBreaks}
-use Rattle.macho_fields.specs.Rules.{BreaksImage}
+use Rattle.macho_fields.specs.Rules.{BreaksFile, BreaksImage}
 use Rattle.macho_fields.specs.declared.rule.Rule.{Rule}
 use Rattle.macho_explain.specs.Compared.{Shown, OfFile, OfImage, shown}
 
@@ -14,3 +14,8 @@ SubjectAs (OfImage S P) bytes place = S bytes place
 abbrev pub AreThere : List ℕ → (List ℕ → ℕ → Type 0) → Rule → Type 0
 AreThere image Breaks rule =
     NothingBreaks (BreaksImage image None) → (place : ℕ) → Breaks image place → SubjectAs (shown rule) image place
+
+-- the same of a file
+abbrev pub AreThereInFile : List ℕ → (List ℕ → ℕ → Type 0) → Rule → Type 0
+AreThereInFile file Breaks rule =
+    NothingBreaks (BreaksFile file) → (place : ℕ) → Breaks file place → SubjectAs (shown rule) file place

@@ -1,19 +1,24 @@
 //! The rules of load commands. (`mach-o/loader.h`)
 
-ghost use Rattle.std.specs.Prelude.{◌≡◌, ◌<◌, ◌⊎◌, ℕ, IfNone, IfSome, MatchOption};
+ghost use Rattle.std.specs.Prelude.{◌≡◌, ◌+◌, ◌≤◌, ◌<◌, ◌⊎◌, ℕ, [], length, IfNone, IfSome, MatchOption};
+ghost use Rattle.std.specs.Option.{option_map_or};
 ghost use Rattle.macho_fields.specs.Bytes.{bytes_of};
+ghost use Rattle.macho_fields.specs.Image.{command_cmd};
+ghost use Rattle.macho_fields.specs.LoadCommands.{structure_of as structure_listed, table_fields};
 ghost use Rattle.macho_fields.specs.declared.rule.Rule.{Rule};
 ghost use Rattle.macho_explain.specs.Commanded.{symbols_shown};
 ghost use Rattle.macho_explain.specs.Compared.{HasCommand, IsCountShown, IsObsoleteFound};
 ghost use Rattle.macho_explain.specs.Explained.{ExplainsIn, IsSpot};
-ghost use Rattle.macho_explain.specs.Explain.{IsUncounted, IsWalked, MeetsLimit, NoneMeetsBefore};
+ghost use Rattle.macho_explain.specs.Explain.{word_at, IsSegment, IsSegmentFound, IsUncounted, IsWalked, MeetsLimit, NoneMeetsBefore};
 ghost use Rattle.macho_explain.specs.Parts.{IsBefore};
+ghost use Rattle.macho_explain.specs.Readers.{IsEncryptedShown};
+ghost use Rattle.macho_explain.specs.declared.segment.SegmentWith.TheVariants as with;
 ghost use Rattle.macho_explain.specs.declared.walk.Sought.TheVariants as sought;
 
 use crate::conflict::Conflict;
 use crate::explanation::Explanation;
 use crate::part::{PartKind, index_of};
-use crate::segment::{SegmentWith, find_segment};
+use crate::segment::{SegmentAt, SegmentWith, find_segment};
 use crate::sliced::Sliced;
 use crate::spot::Spot;
 use crate::table::{symtab_table, table_by, table_with, tables_of};
@@ -28,8 +33,8 @@ use macho_fields::header::loader::load_command::CMDSIZE;
 use macho_fields::header::loader::segment_command_64::FLAGS;
 use macho_fields::header::loader::symtab_command::NSYMS;
 use macho_fields::header::loader::{
-    LC_DYLD_CHAINED_FIXUPS, LC_STR_OFFSET, LC_SYMTAB, LC_THREAD, LC_UNIXTHREAD, LOAD_COMMAND_SIZE,
-    SG_PROTECTED_VERSION_1,
+    LC_DYLD_CHAINED_FIXUPS, LC_ENCRYPTION_INFO_64, LC_STR_OFFSET, LC_SYMTAB, LC_THREAD,
+    LC_UNIXTHREAD, LOAD_COMMAND_SIZE, SG_PROTECTED_VERSION_1,
 };
 use macho_fields::{Span, structure_of};
 use macho_rows::load::Load;
@@ -212,19 +217,47 @@ pub(crate) fn bytes_encrypted(sliced: &Sliced) -> Option<Explanation>
     ensures { ExplainsIn Rule.BytesEncrypted sliced.now result }
 {
     let (at, walked) = command_here(sliced)?;
-    let place = walked.load.place;
-    if let Some(segment) = find_segment(sliced, SegmentWith::Command(place)) {
-        let flags = u64::from(sliced.word(place.saturating_add(FLAGS)));
-        let limit = u64::from(SG_PROTECTED_VERSION_1);
-        return Some(at.shows(Conflict::alone(sliced.segment(&segment), flags, limit)));
+    Some(at.shows(encryption(sliced, &walked)?))
+}
+
+// How the bytes of a segment, or of a range, are encrypted.
+fn encryption(sliced: &Sliced, walked: &Walked) -> Option<Conflict>
+    requires { IsWalked (bytes_of sliced.now.held.bytes) (sought.From sliced.now.place) walked.now }
+    ensures { MatchOption result
+        (¬ (IsSegment (bytes_of sliced.now.held.bytes) sliced.now.place
+        ⊎ (command_cmd (bytes_of sliced.now.held.bytes) sliced.now.place ≡ LC_ENCRYPTION_INFO_64)))
+        (IsEncryptedShown (bytes_of sliced.now.held.bytes) sliced.now.place) }
+{
+    match find_segment(sliced, SegmentWith::Command(sliced.place)) {
+        Some(segment) => Some(protected(sliced, &segment)),
+        None => encrypted(sliced, walked),
     }
+}
+
+// The segment, its flags, and the one by which a kernel decrypts its pages.
+fn protected(sliced: &Sliced, segment: &SegmentAt) -> Conflict
+    requires { IsSegmentFound (bytes_of sliced.now.held.bytes) (with.Command sliced.now.place) segment.now }
+    ensures value { result.value ≡ word_at (bytes_of sliced.now.held.bytes) (sliced.now.place + 68) }
+    ensures limit { result.limit ≡ SG_PROTECTED_VERSION_1 }
+{
+    let flags = u64::from(sliced.word(segment.place + FLAGS));
+    let limit = u64::from(SG_PROTECTED_VERSION_1);
+    Conflict::alone(sliced.segment(segment), flags, limit)
+}
+
+// The encrypted range, how it is encrypted, and the segment with its first byte.
+fn encrypted(sliced: &Sliced, walked: &Walked) -> Option<Conflict>
+    requires { IsWalked (bytes_of sliced.now.held.bytes) (sought.From sliced.now.place) walked.now }
+    ensures { MatchOption result (length (option_map_or table_fields (structure_listed walked.now.load.cmd) []) ≤ 0)
+        (λ c. (c.value ≡ word_at (bytes_of sliced.now.held.bytes) (sliced.now.place + 16)) × (c.limit ≡ 0)) }
+{
     let range = table_with(sliced, walked.load, 0)?;
-    let cryptid = u64::from(sliced.word(place.saturating_add(CRYPTID)));
+    let cryptid = u64::from(sliced.word(walked.load.place + CRYPTID));
     let found = find_segment(sliced, SegmentWith::FileByte(range.span.start));
-    Some(at.shows(Conflict {
+    Some(Conflict {
         second: found.map(|segment| sliced.segment(&segment)),
         ..Conflict::alone(range.part, cryptid, 0)
-    }))
+    })
 }
 
 // The command that has variants of functions.

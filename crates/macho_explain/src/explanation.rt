@@ -6,111 +6,47 @@ ghost use Rattle.macho_explain.specs.Compared.{shown};
 ghost use Rattle.macho_explain.specs.Explained.{ExplainsBy, ExplainsIn, HasPlace, IsExplained, IsUnexplained};
 ghost use Rattle.macho_explain.specs.Judged.{IsOfImage};
 
-use crate::chains::chain_header;
-use crate::chains::chain_imports;
-use crate::chains::chain_library;
-use crate::chains::chain_starts;
-use crate::chains::chain_total;
-use crate::command::bytes_encrypted;
-use crate::command::command_content;
-use crate::command::command_known;
-use crate::command::command_once;
-use crate::command::command_repeated;
-use crate::command::command_short;
-use crate::command::command_walk;
-use crate::command::encrypted_range;
-use crate::command::entry;
-use crate::command::function_variants;
-use crate::command::name;
-use crate::command::obsolete_table;
-use crate::command::symbol_group;
-use crate::command::table_range;
-use crate::command::table_repeated;
-use crate::command::thread;
+use crate::chains::{chain_header, chain_imports, chain_library, chain_starts, chain_total};
+use crate::command::{
+    bytes_encrypted, command_content, command_known, command_once, command_repeated, command_short,
+    command_walk, encrypted_range, entry, function_variants, name, obsolete_table, symbol_group,
+    table_range, table_repeated, thread,
+};
 use crate::conflict::Conflict;
-use crate::element::command_slack;
-use crate::element::element_overlap;
-use crate::element::stray_byte;
-use crate::element::unclaimed_byte;
-use crate::entries::fat_align;
-use crate::entries::fat_duplicate;
-use crate::entries::fat_empty;
-use crate::entries::fat_overlap;
-use crate::entries::fat_slice_in_table;
-use crate::entries::fat_slice_magic;
-use crate::entries::fat_slice_outside;
-use crate::entries::fat_stray_byte;
-use crate::entries::fat_truncated;
-use crate::entries::magic;
-use crate::exports::export_address;
-use crate::exports::export_library;
-use crate::exports::export_node;
-use crate::exports::export_terminal;
-use crate::exports::export_total;
-use crate::functions::data_in_code;
-use crate::functions::function_number;
-use crate::functions::function_start;
-use crate::functions::init_offset;
-use crate::header::arch_mismatch;
-use crate::header::commands_end;
-use crate::header::commands_outside;
-use crate::header::dylib_id;
-use crate::header::file_type;
-use crate::header::header_home;
-use crate::header::header_segment;
-use crate::header::header_truncated;
+use crate::element::{command_slack, element_overlap, stray_byte, unclaimed_byte};
+use crate::entries::{
+    fat_align, fat_duplicate, fat_empty, fat_overlap, fat_slice_in_table, fat_slice_magic,
+    fat_slice_outside, fat_stray_byte, fat_truncated, magic,
+};
+use crate::exports::{export_address, export_library, export_node, export_terminal, export_total};
+use crate::functions::{data_in_code, function_number, function_start, init_offset};
+use crate::header::{
+    arch_mismatch, commands_end, commands_outside, dylib_id, file_type, header_home,
+    header_segment, header_truncated,
+};
 use crate::home::table_home;
-use crate::names::section_name;
-use crate::names::segment_name;
+use crate::names::{section_name, segment_name};
 use crate::order::number_shift;
 use crate::part::Part;
-use crate::pointers::chain_bind;
-use crate::pointers::chain_slot;
+use crate::pointers::{chain_bind, chain_slot};
 use crate::relocation::relocation;
-use crate::seal::directory_repeated;
-use crate::seal::signature_hash;
-use crate::seal::signature_missing;
-use crate::seal::signature_slack;
-use crate::section::indirect_range;
-use crate::section::section_address;
-use crate::section::section_file;
-use crate::section::section_relocs;
+use crate::seal::{directory_repeated, signature_hash, signature_missing, signature_slack};
+use crate::section::{indirect_range, section_address, section_file, section_relocs};
 use crate::section_alone::section_alone;
-use crate::segment::segment_address;
-use crate::segment::segment_file;
-use crate::segment::segment_file_overlap;
-use crate::segment::segment_overlap;
-use crate::segment::segment_page;
-use crate::segment::segment_protection;
-use crate::segment::segment_size;
-use crate::segment::signature_executable;
-use crate::signature::signature_blob;
-use crate::signature::signature_directory;
-use crate::signature::signature_whole;
-use crate::sliced::Sliced;
-use crate::sliced::image_with;
+use crate::segment::{
+    segment_address, segment_file, segment_file_overlap, segment_overlap, segment_page,
+    segment_protection, segment_size, signature_executable,
+};
+use crate::signature::{signature_blob, signature_directory, signature_whole};
+use crate::sliced::{Sliced, image_with};
 use crate::spot::Spot;
 use crate::start::entry_one;
-use crate::stream::bind_library;
-use crate::stream::bind_names;
-use crate::stream::bind_opcode;
-use crate::stream::bind_slot;
-use crate::stream::bind_symbol;
-use crate::stream::bind_total;
-use crate::stream::rebase_opcode;
-use crate::stream::rebase_slot;
-use crate::stream::rebase_total;
-use crate::symbol::indirect_index;
-use crate::symbol::symbol_indirect;
-use crate::symbol::symbol_library;
-use crate::symbol::symbol_name;
-use crate::symbol::symbol_section;
-use crate::symbol::symbol_value;
-use crate::universal::fat_count;
-use crate::universal::fat_header;
-use crate::universal::fat_page;
-use macho_fields::Bytes;
-use macho_fields::Rule;
+use crate::stream;
+use crate::symbol::{
+    indirect_index, symbol_indirect, symbol_library, symbol_name, symbol_section, symbol_value,
+};
+use crate::universal::{fat_count, fat_header, fat_page};
+use macho_fields::{Bytes, Rule};
 
 /// Why a file is refused.
 #[derive(Clone, Copy)]
@@ -210,15 +146,15 @@ fn explain_image(rule: Rule, image: &Sliced) -> Option<Explanation>
         Rule::FunctionVariants => function_variants(image),
         Rule::TableHome => table_home(image),
         Rule::HeaderHome => header_home(image),
-        Rule::RebaseOpcode => rebase_opcode(image),
-        Rule::RebaseSlot => rebase_slot(image),
-        Rule::RebaseTotal => rebase_total(image),
-        Rule::BindOpcode => bind_opcode(image),
-        Rule::BindLibrary => bind_library(image),
-        Rule::BindSymbol => bind_symbol(image),
-        Rule::BindSlot => bind_slot(image),
-        Rule::BindTotal => bind_total(image),
-        Rule::BindNames => bind_names(image),
+        Rule::RebaseOpcode => stream::rebase_opcode(image),
+        Rule::RebaseSlot => stream::rebase_slot(image),
+        Rule::RebaseTotal => stream::rebase_total(image),
+        Rule::BindOpcode => stream::bind_opcode(image),
+        Rule::BindLibrary => stream::bind_library(image),
+        Rule::BindSymbol => stream::bind_symbol(image),
+        Rule::BindSlot => stream::bind_slot(image),
+        Rule::BindTotal => stream::bind_total(image),
+        Rule::BindNames => stream::bind_names(image),
         Rule::ChainHeader => chain_header(image),
         Rule::ChainStarts => chain_starts(image),
         Rule::ChainImports => chain_imports(image),

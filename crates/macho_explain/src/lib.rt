@@ -21,6 +21,7 @@ mod numbers;
 mod order;
 pub mod part;
 mod pointers;
+pub mod readers_law;
 mod relocation;
 mod seal;
 mod section;

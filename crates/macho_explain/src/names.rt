@@ -1,11 +1,12 @@
 //! The rules of the names of segments and sections. (`mach-o/loader.h`: `segment_command_64`, `section_64`)
 
-ghost use Rattle.std.specs.Prelude.{◌≡◌, ◌≢◌, Any, IfSome, MatchOption};
+ghost use Rattle.std.specs.Prelude.{◌≡◌, ◌≢◌, ◌+◌, ◌^◌, ◌≤◌, ◌<◌, length, Any, IfSome, MatchOption};
 ghost use Rattle.macho_fields.specs.Bytes.{bytes_of};
 ghost use Rattle.macho_fields.specs.Segment.{all_segments};
+ghost use Rattle.macho_image.specs.Segment.{short_name};
 ghost use Rattle.macho_fields.specs.declared.rule.Rule.{Rule};
 ghost use Rattle.macho_explain.specs.Explained.{ExplainsIn};
-ghost use Rattle.macho_explain.specs.Explain.{IsSegmentRow};
+ghost use Rattle.macho_explain.specs.Explain.{IsSegment, IsSegmentRow};
 ghost use Rattle.macho_explain.specs.Readers.{IsNameShown, IsNamesShown, IsNamesake, IsTailShown};
 
 use crate::conflict::Conflict;
@@ -32,10 +33,12 @@ pub(crate) fn segment_name(sliced: &Sliced) -> Option<Explanation>
 
 // What a segment shares its name with, or what else is wrong with the name.
 fn named_conflict(sliced: &Sliced, image: &Image, segment: &SegmentAt) -> Conflict
-    requires { IsSegmentRow (bytes_of sliced.now.held.bytes) segment.now }
+    requires row { IsSegmentRow (bytes_of sliced.now.held.bytes) segment.now }
+    requires listed { IsSegment (bytes_of sliced.now.held.bytes) segment.now.place }
+    requires near { segment.now.place < 2 ^ 33 }
     ensures { IsNameShown (bytes_of sliced.now.held.bytes) segment.now.place result }
 {
-    let start = segment.place.saturating_add(segment_command_64::SEGNAME);
+    let start = segment.place + segment_command_64::SEGNAME;
     let name = name_at(sliced.held.bytes, start);
     if let Some(conflict) = tail(sliced, segment.place, start, name) {
         return conflict;
@@ -50,7 +53,10 @@ fn named_conflict(sliced: &Sliced, image: &Image, segment: &SegmentAt) -> Confli
 }
 
 // The name in the 16 bytes at a place, and no bytes where they are not all inside.
-fn name_at(image: Bytes, start: u64) -> &[u8] {
+fn name_at(image: Bytes, start: u64) -> &[u8]
+    ensures { start + SHORT_NAME_SIZE ≤ length (bytes_of image.entry)
+        → result.now ≡ short_name (bytes_of image.entry) start }
+{
     let whole = Span {
         start,
         len: SHORT_NAME_SIZE,

@@ -5,7 +5,7 @@ ghost use Rattle.macho_fields.specs.Bytes.{bytes_of};
 ghost use Rattle.macho_fields.specs.declared.rule.Rule.{Rule};
 ghost use Rattle.macho_explain.specs.Commanded.{HasSection};
 ghost use Rattle.macho_explain.specs.Explained.{ExplainsIn, IsSpot};
-ghost use Rattle.macho_explain.specs.Explain.{IsNthSection, IsWalked, IsSectionFound, IsSectionRow, IsSegmentRow};
+ghost use Rattle.macho_explain.specs.Explain.{IsNthSection, IsSectionOf, IsWalked, IsSectionFound, IsSectionRow, IsSegmentRow};
 ghost use Rattle.macho_explain.specs.Parts.{part_of, place_in_file};
 ghost use Rattle.macho_explain.specs.declared.part.PartKind.{PartKind};
 ghost use Rattle.macho_explain.specs.declared.walk.Sought.TheVariants as sought;
@@ -92,7 +92,8 @@ pub(crate) fn section_here(sliced: &Sliced) -> Option<(Spot, SectionAt, SegmentA
     ensures { MatchOption result (¬ HasSection (bytes_of sliced.now.held.bytes) sliced.now.place)
         (λ found. IsSpot sliced.now found.0
         × IsSectionRow (bytes_of sliced.now.held.bytes) found.1 × (found.1.place ≡ sliced.now.place)
-        × IsSegmentRow (bytes_of sliced.now.held.bytes) found.2) }
+        × IsSegmentRow (bytes_of sliced.now.held.bytes) found.2
+        × IsSectionOf (bytes_of sliced.now.held.bytes) found.2.place found.1.place) }
 {
     let walked = walk_to(sliced.held.bytes, Sought::At(sliced.place))?;
     let section = section_with(sliced, &walked, sliced.place)?;

@@ -1,9 +1,11 @@
 //! The rule of what readers find at the addresses of sections. (`mach-o/loader.h`: `section_64`)
 
-ghost use Rattle.std.specs.Prelude.{◌≡◌, IfSome};
+ghost use Rattle.std.specs.Prelude.{IfSome};
 ghost use Rattle.macho_fields.specs.declared.rule.Rule.{Rule};
+ghost use Rattle.macho_fields.specs.Bytes.{bytes_of};
 ghost use Rattle.macho_explain.specs.Explained.{ExplainsIn};
-ghost use Rattle.macho_explain.specs.Parts.{Share};
+ghost use Rattle.macho_explain.specs.Explain.{IsSectionOf, IsSectionRow, IsSegmentRow};
+ghost use Rattle.macho_explain.specs.Readers.{IsTakenShown};
 
 use crate::conflict::{Conflict, shared};
 use crate::explanation::Explanation;
@@ -23,18 +25,40 @@ pub(crate) fn section_alone(sliced: &Sliced) -> Option<Explanation>
 {
     let (at, section, segment) = section_here(sliced)?;
     let image = sliced.held.open()?;
-    let conflict = if segment.row.vmsize == 0 {
-        over_segment(sliced, &section)
-    } else {
-        sharing(sliced, &image, &section).or(hidden(sliced, &section, &segment))
-    };
-    let own = section.addresses(sliced);
-    Some(at.shows(conflict.unwrap_or(Conflict::alone(own, section.row.addr, 0))))
+    Some(at.shows(taken(sliced, &image, &section, &segment)))
+}
+
+// What else is at the addresses of the section, or its first address if nothing is.
+fn taken(sliced: &Sliced, image: &Image, section: &SectionAt, segment: &SegmentAt) -> Conflict
+    requires section { IsSectionRow (bytes_of sliced.now.held.bytes) section.now }
+    requires segment { IsSegmentRow (bytes_of sliced.now.held.bytes) segment.now }
+    requires of { IsSectionOf (bytes_of sliced.now.held.bytes) segment.now.place section.now.place }
+    ensures { IsTakenShown (bytes_of sliced.now.held.bytes) section.now.place result }
+{
+    if segment.row.vmsize == 0 {
+        return or_address(sliced, section, over_segment(sliced, section));
+    }
+    if let Some(conflict) = sharing(sliced, image, section) {
+        return conflict;
+    }
+    or_address(sliced, section, hidden(sliced, section, segment))
+}
+
+// What was found, or otherwise the first address of the section.
+fn or_address(sliced: &Sliced, section: &SectionAt, found: Option<Conflict>) -> Conflict
+    requires row { IsSectionRow (bytes_of sliced.now.held.bytes) section.now }
+    requires found { IfSome found (IsTakenShown (bytes_of sliced.now.held.bytes) section.now.place) }
+    ensures { IsTakenShown (bytes_of sliced.now.held.bytes) section.now.place result }
+{
+    match found {
+        Some(conflict) => conflict,
+        None => Conflict::alone(section.addresses(sliced), section.row.addr, 0),
+    }
 }
 
 // The first segment that has an address of the section.
 fn over_segment(sliced: &Sliced, section: &SectionAt) -> Option<Conflict>
-    ensures { IfSome result Share }
+    ensures { IfSome result (IsTakenShown (bytes_of sliced.now.held.bytes) section.now.place) }
 {
     let wanted = SegmentWith::SharingMemory(section.memory(), u64::MAX);
     let segment = find_segment(sliced, wanted)?;
@@ -45,7 +69,7 @@ fn over_segment(sliced: &Sliced, section: &SectionAt) -> Option<Conflict>
 
 // The first earlier section that readers look for and that has an address of this one.
 fn sharing(sliced: &Sliced, image: &Image, section: &SectionAt) -> Option<Conflict>
-    ensures { IfSome result Share }
+    ensures { IfSome result (IsTakenShown (bytes_of sliced.now.held.bytes) section.now.place) }
 {
     let own = section.memory();
     let earlier = image.sections().find(|earlier| {
@@ -59,11 +83,14 @@ fn sharing(sliced: &Sliced, image: &Image, section: &SectionAt) -> Option<Confli
 
 // The first byte of the file that is not zero, where the section shows a zero.
 fn hidden(sliced: &Sliced, section: &SectionAt, segment: &SegmentAt) -> Option<Conflict>
-    ensures { IfSome result (λ c. c.limit ≡ 0) }
+    requires section { IsSectionRow (bytes_of sliced.now.held.bytes) section.now }
+    requires segment { IsSegmentRow (bytes_of sliced.now.held.bytes) segment.now }
+    requires of { IsSectionOf (bytes_of sliced.now.held.bytes) segment.now.place section.now.place }
+    ensures { IfSome result (IsTakenShown (bytes_of sliced.now.held.bytes) section.now.place) }
 {
     let past = section.row.addr.checked_sub(segment.row.vmaddr)?;
     let bytes = Span {
-        start: segment.row.fileoff.saturating_add(past),
+        start: segment.row.fileoff.checked_add(past)?,
         len: segment
             .row
             .filesize

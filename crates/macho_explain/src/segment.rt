@@ -1,11 +1,11 @@
 //! The rules of segments. (`mach-o/loader.h`: `segment_command_64`)
 
-ghost use Rattle.std.specs.Prelude.{◌≡◌, ◌↔◌, ℕ, List, IsTrue, MatchOption};
+ghost use Rattle.std.specs.Prelude.{◌≡◌, ◌↔◌, ◌^◌, ◌<◌, ℕ, List, IsTrue, MatchOption};
 ghost use Rattle.macho_fields.specs.Bytes.{bytes_of};
 ghost use Rattle.macho_fields.specs.declared.rule.Rule.{Rule};
 ghost use Rattle.macho_explain.specs.Compared.{HasSegment};
 ghost use Rattle.macho_explain.specs.Explained.{ExplainsIn, IsSpot};
-ghost use Rattle.macho_explain.specs.Explain.{IsSegmentFound, IsSegmentRow, MeetsSegment, NoSegmentMeets};
+ghost use Rattle.macho_explain.specs.Explain.{IsSegment, IsSegmentFound, IsSegmentRow, MeetsSegment, NoSegmentMeets};
 ghost use Rattle.macho_tables.specs.Segments.{is_writable as is_writable_of};
 
 use crate::command::command_here;
@@ -84,7 +84,8 @@ pub(crate) fn segment_at(sliced: &Sliced, place: u64) -> Option<Part> {
 pub(crate) fn segment_here(sliced: &Sliced) -> Option<(Spot, SegmentAt)>
     ensures { MatchOption result (¬ HasSegment (bytes_of sliced.now.held.bytes) sliced.now.place)
         (λ found. IsSpot sliced.now found.0
-        × IsSegmentRow (bytes_of sliced.now.held.bytes) found.1 × (found.1.place ≡ sliced.now.place)) }
+        × IsSegmentRow (bytes_of sliced.now.held.bytes) found.1 × (found.1.place ≡ sliced.now.place)
+        × IsSegment (bytes_of sliced.now.held.bytes) found.1.place × (found.1.place < 2 ^ 33)) }
 {
     let (at, _) = command_here(sliced)?;
     Some((

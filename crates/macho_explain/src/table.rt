@@ -6,8 +6,8 @@ ghost use Rattle.macho_fields.specs.Bytes.{bytes_of};
 ghost use Rattle.macho_fields.specs.LoadCommands.{structure_of, table_fields};
 ghost use Rattle.macho_fields.specs.declared.load_command.Width.TheVariants.{Uint32};
 ghost use Rattle.macho_explain.specs.Commanded.{field_shown};
-ghost use Rattle.macho_explain.specs.Compared.{size_shown, span_shown, start_shown, written};
-ghost use Rattle.macho_explain.specs.Explain.{IsOfBytes, word_at};
+ghost use Rattle.macho_explain.specs.Compared.{size_shown, span_shown, start_shown};
+ghost use Rattle.macho_explain.specs.Explain.{IsOfBytes, word_at, written};
 ghost use Rattle.macho_explain.specs.Parts.{IsPartOf};
 
 use crate::part::{Part, PartKind, index_of};

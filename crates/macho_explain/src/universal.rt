@@ -5,7 +5,7 @@ ghost use Rattle.macho_fields.specs.Bytes.{bytes_of};
 ghost use Rattle.macho_fields.specs.declared.rule.Rule.{Rule};
 ghost use Rattle.macho_fat.specs.Slices.{slice_of};
 ghost use Rattle.macho_explain.specs.Explained.{ExplainsFile};
-ghost use Rattle.macho_explain.specs.Readers.{HasNoneWithin, HasOtherMagic, header_arch as header_arch_of, magic_of as magic_of_type, slice_word as slice_word_of};
+ghost use Rattle.macho_explain.specs.Readers.{BeginsSlice, HasNoneWithin, HasOtherMagic, header_arch as header_arch_of, magic_of as magic_of_type, slice_word as slice_word_of};
 ghost use Rattle.macho_readers.specs.Pages.{page_size as page_size_of, page_end};
 
 use crate::conflict::Conflict;
@@ -136,7 +136,7 @@ fn pages_end(slice: &Slice, cputype: u32) -> u128
 // The first slice that begins after the start and before the end, and where it begins.
 fn first_within(file: Bytes, start: u64, end: u128) -> Option<(Part, u64)>
     ensures { MatchOption result (HasNoneWithin (bytes_of file.entry) start end)
-        (λ found. (start < found.1) × (found.1 < end)) }
+        (λ found. (start < found.1) × (found.1 < end) × BeginsSlice (bytes_of file.entry) found.1) }
 {
     for index in 0..entry_count(file) {
         let slice = slice_with_index(file, index)?;

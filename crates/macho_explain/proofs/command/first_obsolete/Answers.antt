@@ -3,8 +3,8 @@ use Rattle.std.specs.Prelude.{MatchOption}
 use Rattle.std.specs.Option.{option_or}
 use Rattle.macho_fields.specs.Bytes.{bytes_of}
 use Rattle.macho_explain.specs.Commanded.{obsolete_counts}
-use Rattle.macho_explain.specs.Compared.{IsCountShown, IsObsoleteFound, written}
-use Rattle.macho_explain.specs.Explain.{word_at}
+use Rattle.macho_explain.specs.Compared.{IsCountShown, IsObsoleteFound}
+use Rattle.macho_explain.specs.Explain.{word_at, written}
 use Rattle.macho_explain.proofs.command.first_obsolete.Goals as goal
 
 module _ (image : List ℕ) (place : ℕ) where

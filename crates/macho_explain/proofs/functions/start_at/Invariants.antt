@@ -1,7 +1,7 @@
 use Rattle.std.proofs.Common.{◌≡◌, ◌+◌, ◌-◌, ◌≤◌, List, ℕ}
 use Rattle.std.specs.Prelude.{sum}
 use Rattle.macho_tables.specs.StartNumbers.{AreNumbers}
-use Rattle.macho_explain.specs.Compared.{written}
+use Rattle.macho_explain.specs.Explain.{written}
 use Rattle.macho_explain.proofs.functions.start_at.Given as goal
 
 -- the address is that of the function before the place, which is not past a number at the offset

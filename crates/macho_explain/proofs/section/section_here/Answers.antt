@@ -1,6 +1,7 @@
 use Rattle.std.proofs.Common.{◌∙◌, ◌<◌, arith, inl, inr, subst, sym}
 use Rattle.macho_fields.specs.Bytes.{bytes_of}
 use Rattle.macho_rows.specs.Sections.{nsects_at}
+use Rattle.macho_explain.specs.Explain.{IsSectionOf}
 use Rattle.macho_explain.proofs.Sought.{owner, owner_walked}
 use Rattle.macho_explain.proofs.section.section_here.Goals as goal
 
@@ -34,7 +35,7 @@ returns-then-section-sliced c =
     λ has.
     let (j, k, segment, nth, is) = owner image place has in
     let same = owner_walked image place j k segment nth c.in_ok-walked.walked is c.in_ok-walked.ensures in
-    let (other, start) = found.start in
+    let (other, few, start) = found.start in
     let begins = is.start in
     c.if-section-sliced.true (omega (arith, start, begins, same, c.in_ok-section.ensures.segment, found.from, found.to))
 
@@ -46,3 +47,10 @@ returns-in_err-segment c =
     let (j, k, segment, nth, is) = owner image place has in
     let same = owner_walked image place j k segment nth c.in_ok-walked.walked is c.in_ok-walked.ensures in
     c.in_err-segment.ensures k segment is.segment_listed (sym same ∙ sym c.in_ok-section.ensures.segment))
+
+pub returns : goal.returns
+returns c =
+    let image = bytes_of c.args.sliced.now.held.bytes in
+    let found = c.in_ok-section.ensures.found in
+    let of = c.in_ok-segment.ensures in
+    (c.section_spot.ensures, found.row, c.if-section-sliced.false, of.row, subst (λ s. IsSectionOf image s c.in_ok-section.section.place) (sym of.meets) found.start)

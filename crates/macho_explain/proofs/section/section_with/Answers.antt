@@ -30,5 +30,5 @@ returns-clause-found c =
           (walked.index, walked.load.place, nth, c.requires.listed, less, ap (λ n. n + nth) c.requires.sections, omega (arith, from), omega (arith, from));
       from = omega (arith, from);
       to = omega (arith, from);
-      start = (nth, refl);
+      start = (nth, less, refl);
     }

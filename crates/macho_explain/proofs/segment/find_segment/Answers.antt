@@ -21,6 +21,7 @@ is_row start image segment row = record {
   file_size = ap (λ (r : KesvuotSegment). r.filesize) row;
   maxprot = ap (λ (r : KesvuotSegment). r.maxprot) row;
   initprot = ap (λ (r : KesvuotSegment). r.initprot) row;
+  sections = ap (λ (r : KesvuotSegment). r.section_count) row;
 }
 
 pub loop-load-init : goal.loop-load-init
@@ -30,7 +31,15 @@ pub returns-then-is_wanted : goal.returns-then-is_wanted
 returns-then-is_wanted c =
     let image = bytes_of c.args.sliced.now.held.bytes in
     let row = is_row c.args.sliced.now.held.place image (record { place = c.in-Some.load.place; index = c.index_of.result; row = c.row_of.result }) c.row_of.ensures in
-    record { row = row; meets = (c.is_wanted.ensures image row).0 c.if-is_wanted.true }
+    let (k, left, before) = c.loop-load.invariant in
+    let rest = wanted_left wanted.Segments image c.next_wanted.new.cursor in
+    let meets = (c.is_wanted.ensures image row).0 c.if-is_wanted.true in
+    record {
+      row = row;
+      meets = meets;
+      first = record { index = k; listed = listed (all_segment_loads image) k c.in-Some.load.place rest (left ∙ c.in-Some.ensures.first); has = meets; first = before };
+      near = c.in-Some.ensures.load.0.near;
+    }
 
 pub loop-load-preserved : goal.loop-load-preserved
 loop-load-preserved c =
