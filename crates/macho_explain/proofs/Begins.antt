@@ -58,7 +58,7 @@ module _ (image : List ℕ) (place : ℕ) where
   IsFoundByte found =
       MatchOption found ((byte : ℕ) → ¬ IsEntryByte image place byte) (λ f. (byte : ℕ) → (f.1 ≡ byte) ↔ IsEntryByte image place byte)
 
-  -- the byte at the one address is that of the program
+  -- the byte at the one address is the program's
   pub of_address : (address : ℕ) → ((a : ℕ) → (Some address ≡ Some a) ↔ IsEntryAddress image place a) → (found : Option (Part × ℕ)) → IsFoundAt address found → IsFoundByte found
   of_address address says found =
       found_as ((byte : ℕ) → ¬ IsByteOfAddress image address byte) ((byte : ℕ) → ¬ IsEntryByte image place byte)

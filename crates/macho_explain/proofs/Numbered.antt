@@ -1,4 +1,4 @@
--- The segments before a place, which are counted, and those of them that have sections.
+-- The segments before a place, which are counted, and the ones with sections.
 use Rattle.std.proofs.Common.{◌≡◌, ◌∙◌, ℕ, ◌+◌, ◌^◌, ◌≤◌, ◌<◌, List, [], ◌∷◌, ◌++◌, map, filter, length, get_or, drop, Bool, true, false, ap, append_assoc, arith, inl, inr, length-append, refl, subst, sym}
 use Rattle.std.specs.Prelude.{nat_lt}
 use Rattle.std.proofs.lemmas.Bool.{le-ltb, lt-ltb}

@@ -151,7 +151,7 @@ HasLaterSegment image place =
 abbrev pub HasLaterLibrary : List ℕ → ℕ → Type 0
 HasLaterLibrary image place = HasLater (all_loads image) (λ later. IsEager (command_cmd image later)) place
 
--- the size of the segment, which is not mapped, and that of the first later one that can be written
+-- the size of the segment, which is not mapped, and of the first later one that can be written
 abbrev pub IsUnmappedShown : List ℕ → ℕ → Conflict → Type 0
 IsUnmappedShown image place c =
     (vmsize image place ≡ 0) × (c.value ≡ 0)
@@ -222,7 +222,7 @@ IsNamesake image place name earlier = (earlier < place) × (segment_name image e
 
 -- Addresses of sections
 
--- a byte of the file is the one that the segment has at an address of the section
+-- a byte of the file is what the segment has at an address of the section
 abbrev pub IsByteUnder : List ℕ → ℕ → ℕ → ℕ → Type 0
 IsByteUnder image segment section at =
     let past = section_address image section - vmaddr image segment in

@@ -63,7 +63,7 @@ fn by_segment(sliced: &Sliced, segment: &SegmentAt) -> Option<Conflict>
     }
 }
 
-// The size of the segment, if it is not mapped, and that of the first later one that can be written.
+// The size of the segment, if it is not mapped, and of the first later one that can be written.
 fn later_writable(sliced: &Sliced, segment: &SegmentAt) -> Option<Conflict>
     requires { IsSegmentFound (bytes_of sliced.now.held.bytes) (with.Command sliced.now.place) segment.now }
     ensures { MatchOption result (¬ HasLaterSegment (bytes_of sliced.now.held.bytes) sliced.now.place)
@@ -91,7 +91,7 @@ fn by_library(sliced: &Sliced, walked: &Walked) -> Option<Conflict>
 }
 
 // The number of the segment, and its number by the segments that have sections, if that is another one; or its address,
-// and that of its first section.
+// and of its first section.
 fn by_sections(sliced: &Sliced, segment: &SegmentAt) -> Option<Conflict>
     requires { IsSegmentFound (bytes_of sliced.now.held.bytes) (with.Command sliced.now.place) segment.now }
     ensures { MatchOption result (¬ Opens (bytes_of sliced.now.held.bytes)) (λ c.
@@ -134,7 +134,7 @@ fn has_page_zero(image: &Image) -> bool
         .any(|segment| segment.name() == SEG_PAGEZERO)
 }
 
-// The address of the segment, and that of its first section, or 0 if it has none.
+// The address of the segment, and of its first section, or 0 if it has none.
 fn starts(sliced: &Sliced, segment: &SegmentAt) -> Conflict
     requires { IsSegmentFound (bytes_of sliced.now.held.bytes) (with.Command sliced.now.place) segment.now }
     ensures value { result.value ≡ segment.now.row.vmaddr }

@@ -61,7 +61,7 @@ abbrev pub HasOneBlobOfSlot : List ℕ → Type 0
 HasOneBlobOfSlot image = OfSignature image (λ signature. (slot : ℕ) → Agree (IsBlobOfSlot signature slot))
 
 -- Which identifier, which team, which flags, platform, executable segment and runtime has the program? Those of the
--- code directory in the slot of the one that each signature has; of the first, or of the last; or of the one with the
+-- code directory in slot 0; of the first, or of the last; or of the one with the
 -- best type of hashes (xnu: hash_rank).
 
 abbrev pub hash_rank : ℕ → ℕ

@@ -86,7 +86,7 @@ pub(crate) fn slot_number(slot: u32) -> Option<usize>
     }
 }
 
-// Whether the slot is one of code directories besides the one that each signature has.
+// Whether the slot is one of code directories besides slot 0.
 fn is_alternate_slot(slot: u32) -> bool
     ensures { result ≡ is_alternate_slot_of slot }
 {
