@@ -1,3 +1,8 @@
+pub mod BindLists
+pub mod BindNames
+pub mod BindPairs
+pub mod BindStreams
+pub mod BindWalks
 pub mod ExportPaths
 pub mod ExportWalks
 pub mod Labels

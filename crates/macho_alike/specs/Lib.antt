@@ -1,3 +1,5 @@
+pub mod BindLists
+pub mod Binds
 pub mod ExportModels
 pub mod Exports
 pub mod Labels
