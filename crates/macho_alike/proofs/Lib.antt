@@ -1,3 +1,4 @@
+pub mod BindAnswers
 pub mod BindLists
 pub mod BindNames
 pub mod BindPairs

@@ -1,8 +1,9 @@
--- The pointers that the opcodes of an image bind, and where two binds do not agree. A slot is an offset in a segment.
--- (mach-o/loader.h: dyld_info_command, BIND_OPCODE_..)
-use Rattle.std.specs.Prelude.{◌≡◌, ◌≢◌, ℕ, pos, ⊤, ◌+◌, ◌*◌, ◌%◌, ◌^◌, ◌≤◌, ◌<◌, ◌⊎◌, List, Option, Some, None, IsSomeAnd}
+-- The pointers that the fixups of an image bind, and where two binds do not agree. A slot is an offset in a segment.
+-- (mach-o/loader.h: dyld_info_command, BIND_OPCODE_.., LC_DYLD_CHAINED_FIXUPS)
+use Rattle.std.specs.Prelude.{◌≡◌, ◌≢◌, ℕ, pos, ⊤, ◌+◌, ◌*◌, ◌%◌, ◌^◌, ◌≤◌, ◌<◌, ◌⊎◌, List, slice_index, Option, Some, None, IsSomeAnd}
 use Rattle.std.specs.List.{fold}
 use Rattle.macho_fields.specs.Field.{part}
+use Rattle.macho_fields.specs.Segment.{all_segments, fileoff}
 use Rattle.macho_fields.specs.Symbol.{table_at}
 use Rattle.macho_spans.specs.declared.span.Span.{Span}
 use Rattle.macho_tables.specs.Places.{dyld_info}
@@ -15,6 +16,9 @@ use Rattle.macho_opcodes.specs.declared.step.Step.{Step}
 use Rattle.macho_opcodes.specs.declared.step.Step.TheVariants as step
 use Rattle.macho_opcodes.specs.declared.streams.Stream.{Stream}
 use Rattle.macho_opcodes.specs.declared.streams.Stream.TheVariants as streams
+use Rattle.macho_chains.specs.ChainPointers.{ComesTo}
+use Rattle.macho_chains.specs.ChainStarts.{starts_of}
+use Rattle.macho_chains.specs.Chains.{InPointers}
 use Rattle.macho_alike.specs.declared.binds.Aim.{Aim}
 use Rattle.macho_alike.specs.declared.binds.Bind.{Bind}
 use Rattle.macho_alike.specs.declared.binds.Compared.{Compared}
@@ -121,9 +125,30 @@ Clash what image one other =
     IsCompared what one × IsCompared what other
     × (ShareBytes one other ⊎ (IsOneSlot one other × ¬ IsSame what image one other))
 
--- The rule bind-once of opcodes, at the place of one: a bind of it clashes with one of it or of an opcode at a lesser
+-- Opcodes, at the place of one: a bind of it clashes with one of it or of an opcode at a lesser
 -- place
 abbrev pub BreaksOpcodeBindOnce : List ℕ → ℕ → Type 0
 BreaksOpcodeBindOnce image place =
     (what : Compared) × (one : Bind) × (other : Bind) × IsBind image one × IsBind image other
     × Clash what image one other × (one.place ≤ place) × (other.place ≡ place)
+
+-- Chains
+
+-- a chain of the segment with an index comes to a pointer at an offset
+abbrev pub IsChainSlot : List ℕ → ℕ → ℕ → Type 0
+IsChainSlot image k offset =
+    InPointers image
+    (λ image table chains header offset. IsSomeAnd (starts_of chains header k) (λ starts.
+    (page : ℕ) × (page < starts.page_count)
+    × ComesTo image chains (slice_index (all_segments image) k) starts page offset))
+    offset
+
+-- such a pointer begins in the bytes of another one, which is reported at it
+abbrev pub BreaksChainBindOnce : List ℕ → ℕ → Type 0
+BreaksChainBindOnce image place =
+    (k : ℕ) × (one : ℕ) × (other : ℕ) × IsChainSlot image k one × IsChainSlot image k other × (one < other)
+    × (other < one + size.POINTER_SIZE) × (place ≡ fileoff image (slice_index (all_segments image) k) + other)
+
+-- The rule bind-once, of opcodes or of chains. An image has one of the two, and no chain breaks it.
+abbrev pub BreaksBindOnce : List ℕ → ℕ → Type 0
+BreaksBindOnce image place = BreaksOpcodeBindOnce image place ⊎ BreaksChainBindOnce image place

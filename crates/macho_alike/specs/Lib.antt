@@ -1,4 +1,5 @@
 pub mod BindLists
+pub mod BindModels
 pub mod Binds
 pub mod ExportModels
 pub mod Exports

@@ -1,4 +1,4 @@
-//! The rule of the pointers that opcodes bind. (`mach-o/loader.h`: `BIND_OPCODE_..`)
+//! The rule of the pointers that fixups bind. (`mach-o/loader.h`: `BIND_OPCODE_..`, `LC_DYLD_CHAINED_FIXUPS`)
 
 ghost use Rattle.std.specs.Prelude.{◌≡◌, ◌+◌, ◌≤◌, ◌<◌, ◌^◌, ◌-◌, ◌↔◌, ℕ, length, IsTrue, None, Some, IfOk, OnErr, IfSome, Contains};
 ghost use Rattle.std.specs.List.Sorted.{IsNonDecreasingBy};
@@ -9,7 +9,7 @@ ghost use Rattle.macho_fields.specs.Layers.{NothingBreaks};
 ghost use Rattle.macho_fields.specs.Rules.{BreaksImage as Breaks};
 ghost use Rattle.macho_spans.specs.Span.{end_of};
 ghost use Rattle.macho_tables.specs.Places.{dyld_info as dyld_info_of};
-ghost use Rattle.macho_alike.specs.Binds.{StepBinds, StreamBinds, BindsOf, IsBind, HasBind, IsSame, BreaksOpcodeBindOnce};
+ghost use Rattle.macho_alike.specs.Binds.{StepBinds, StreamBinds, BindsOf, IsBind, HasBind, IsSame, BreaksBindOnce, BreaksOpcodeBindOnce};
 ghost use Rattle.macho_alike.specs.BindLists.{WereAdded, AreSpread, IsInside, AreInside, slot_number, ClashBy, AnyClashBy, ClashAt, IsApart, IsTaken};
 ghost use Rattle.macho_alike.specs.declared.binds.Bind.{Bind};
 
@@ -109,7 +109,18 @@ pub enum Compared {
 /// bytes, or they are of one slot, and their names, addends or libraries differ. The image breaks no rule of the layout.
 /// For n binds it takes time in the order of n log n, besides that of comparing names, and memory for each bind. The
 /// names of two binds of one slot are compared only if they are in different places.
-pub fn opcode_bind_once(alloc: Global, image: &Image) -> Result<Option<u64>, AllocError>
+///
+/// Pointers of chains share no byte, and each says one bind, so they are not looked at.
+pub fn bind_once(alloc: Global, image: &Image) -> Result<Option<u64>, AllocError>
+    requires { NothingBreaks (Breaks image.now None) }
+    ensures least { IfOk result (IsLeastPlace (BreaksBindOnce image.now)) }
+    ensures memory { OnErr result (HasBind image.now) }
+{
+    opcode_bind_once(alloc, image)
+}
+
+// The same for opcodes alone, which is the same place.
+fn opcode_bind_once(alloc: Global, image: &Image) -> Result<Option<u64>, AllocError>
     requires { NothingBreaks (Breaks image.now None) }
     ensures least { IfOk result (IsLeastPlace (BreaksOpcodeBindOnce image.now)) }
     ensures memory { OnErr result (HasBind image.now) }

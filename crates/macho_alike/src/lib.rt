@@ -3,11 +3,12 @@
 //! symbol table, and others the types of its symbols. Some look a name up in the export trie, and others list all names.
 //! No profile judges these rules yet.
 
+pub mod bind_law;
 pub mod binds;
 pub mod exports;
 pub mod law;
 pub mod symbols;
 
-pub use binds::opcode_bind_once;
+pub use binds::bind_once;
 pub use exports::export_edge;
 pub use symbols::symbol_kind;
