@@ -213,7 +213,7 @@ module _ (image : List ℕ) (binds : List Bind) where
         ]
       ]
 
-  -- none up to the end is none at all
+  -- where no two clash up to the end, no two do
   pub none_of_limit : (end : ℕ) → AreInside end binds → ¬ AnyClashBy image binds end → IsLeastPlace (ClashAt image binds) None
   none_of_limit end inside none place (what, one, other, here, there, clash, first, second) =
       none (what, (one, other, here, there, clash, (inside one here).place, (inside other there).place))

@@ -1,21 +1,25 @@
 -- The binds of the streams of an image.
-use Rattle.std.proofs.Common.{◌≡◌, ◌↔◌, ◌⊎◌, ℕ, List, [], length, Option, Some, None, Contains, refl, sym, subst, arith, inl, inr}
-use Rattle.std.specs.Prelude.{IsSomeAnd}
+use Rattle.std.proofs.Common.{◌≡◌, ◌↔◌, ◌⊎◌, ℕ, ◌<◌, List, [], length, get_or, Option, Some, None, Contains, refl, sym, subst, arith, inl, inr}
+use Rattle.std.specs.Prelude.{IsSomeAnd, IfOk, Result, Ok, Err}
 use Rattle.std.proofs.lemmas.Bool.{cases_eq}
+use Rattle.std.proofs.lemmas.List.{get_or_default}
+use Rattle.macho_fields.specs.FirstPlace.{IsLeastPlace}
 use Rattle.macho_fields.specs.Field.{part}
 use Rattle.macho_fields.specs.Layers.{NothingBreaks}
 use Rattle.macho_fields.specs.Rules.{BreaksImage}
 use Rattle.macho_fields.specs.Symbol.{table_at}
 use Rattle.macho_image.proofs.ReadParts.{length-part}
 use Rattle.macho_tables.specs.Places.{dyld_info}
+use Rattle.macho_tables.proofs.Places.{least_same}
 use Rattle.macho_opcodes.specs.Images.{opcodes_of, fields_of}
 use Rattle.macho_opcodes.specs.declared.streams.Stream.{Stream}
 use Rattle.macho_opcodes.specs.declared.streams.Stream.TheVariants as streams
 use Rattle.macho_opcodes.proofs.TableSurveys.{stream_inside}
 use Rattle.macho_opcodes.proofs.Within.{step_within}
-use Rattle.macho_alike.specs.Binds.{StreamBinds, BindsOf, IsBind, BreaksOpcodeBindOnce}
+use Rattle.macho_alike.specs.Binds.{StreamBinds, BindsOf, IsBind, HasBind, BreaksOpcodeBindOnce}
 use Rattle.macho_alike.specs.BindLists.{WereAdded, IsInside, ClashAt}
 use Rattle.macho_alike.specs.declared.binds.Bind.{Bind}
+use Rattle.macho_alike.proofs.BindPairs.{no_bind}
 use Rattle.macho_alike.proofs.BindWalks.{stream_binds_inside}
 
 -- a stream without bytes binds nothing
@@ -92,3 +96,12 @@ breaks_same image binds all place = (
   λ (what, one, other, here, there, clash, first, second). (what, one, other, (all one).0 here, (all other).0 there, clash, first, second),
   λ (what, one, other, here, there, clash, first, second). (what, one, other, (all one).1 here, (all other).1 there, clash, first, second),
 )
+
+pub some_bind : (image : List ℕ) (binds : List Bind) → ((bind : Bind) → Contains binds bind ↔ IsBind image bind) → 0 < length binds → HasBind image
+some_bind image binds all some =
+    let first = get_or binds 0 no_bind in (first, (all first).0 (0, some, get_or_default binds 0 _ no_bind some))
+
+pub least_listed : {E : Type 0} (image : List ℕ) (binds : List Bind) → ((bind : Bind) → Contains binds bind ↔ IsBind image bind) → (r : Result (Option ℕ) E)
+    → IfOk r (IsLeastPlace (ClashAt image binds)) → IfOk r (IsLeastPlace (BreaksOpcodeBindOnce image))
+least_listed image binds all (Ok found) least = least_same (ClashAt image binds) (BreaksOpcodeBindOnce image) found (breaks_same image binds all) least
+least_listed image binds all (Err e) least = tt

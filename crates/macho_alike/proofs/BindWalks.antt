@@ -30,7 +30,7 @@ module _ (one : Stream) (from : ℕ) (stream : List ℕ) where
   abbrev pub BindsBelow : ℕ → Bind → Type 0
   BindsBelow place bind = (offset : ℕ) × (offset < place) × OpcodeBinds one from stream offset bind
 
-  -- where a walk has come: the binds of the opcodes before the place were added to those of a list
+  -- where a walk has come: the binds of the opcodes before the place were added to a list
   pub record IsRead (old : List Bind) (place : ℕ) (cursor : Cursor) (aim : Aim) (items : List Bind) : Type 0 where
     pub before : List Step
     pub are : AreSteps (opcodes_of one) stream before place

@@ -2,6 +2,7 @@ pub mod BindAnswers
 pub mod BindLists
 pub mod BindNames
 pub mod BindPairs
+pub mod BindRenames
 pub mod BindStreams
 pub mod BindWalks
 pub mod ExportPaths

@@ -54,7 +54,7 @@ ClashBy what image binds limit =
 abbrev pub AnyClashBy : List ℕ → List Bind → ℕ → Type 0
 AnyClashBy image binds limit = (what : Compared) × ClashBy what image binds limit
 
--- two clash, and the one that is not at the lesser place is at the place
+-- two clash, one of them is at the place, and the other is not past it
 abbrev pub ClashAt : List ℕ → List Bind → ℕ → Type 0
 ClashAt image binds place =
     (what : Compared) × (one : Bind) × (other : Bind) × Contains binds one × Contains binds other

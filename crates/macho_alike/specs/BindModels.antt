@@ -68,6 +68,6 @@ HasChainSlotsApart image =
     (k one other : ℕ) → IsChainSlot image k one → IsChainSlot image k other
     → (one ≡ other) ⊎ ((one + size.POINTER_SIZE ≤ other) ⊎ (other + size.POINTER_SIZE ≤ one))
 
--- Are binds those of opcodes, or those of chains? No image has both.
+-- Do opcodes bind, or chains? No image has both.
 abbrev pub HasOneKindOfFixups : List ℕ → Type 0
 HasOneKindOfFixups image = (dyld_info image ≡ None) ⊎ (chained_fixups image ≡ None)

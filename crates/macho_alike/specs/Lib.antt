@@ -1,5 +1,6 @@
 pub mod BindLists
 pub mod BindModels
+pub mod BindNames
 pub mod Binds
 pub mod ExportModels
 pub mod Exports

@@ -13,6 +13,7 @@ ghost use Rattle.macho_alike.specs.Binds.{StepBinds, StreamBinds, BindsOf, IsBin
 ghost use Rattle.macho_alike.specs.BindLists.{WereAdded, AreSpread, IsInside, AreInside, slot_number, ClashBy, AnyClashBy, ClashAt, IsApart, IsTaken};
 ghost use Rattle.macho_alike.specs.declared.binds.Bind.{Bind};
 
+use crate::bind_names::share_names;
 use macho_fields::{Bytes, Span};
 use macho_image::Image;
 use macho_opcodes::cursor::Cursor;
@@ -107,8 +108,8 @@ pub enum Compared {
 
 /// The least place of an opcode with a bind that clashes with one of the same or of a lesser place: their slots share
 /// bytes, or they are of one slot, and their names, addends or libraries differ. The image breaks no rule of the layout.
-/// For n binds it takes time in the order of n log n, besides that of comparing names, and memory for each bind. The
-/// names of two binds of one slot are compared only if they are in different places.
+/// For n binds it takes time in the order of n log n, besides the bytes of their names, and memory for each bind.
+/// Names with the same bytes are looked for once, so that names of one slot are compared by their places.
 ///
 /// Pointers of chains share no byte, and each says one bind, so they are not looked at.
 pub fn bind_once(alloc: Global, image: &Image) -> Result<Option<u64>, AllocError>
@@ -132,7 +133,7 @@ fn opcode_bind_once(alloc: Global, image: &Image) -> Result<Option<u64>, AllocEr
     add_stream(image, command, Stream::Bind, &mut binds)?;
     add_stream(image, command, Stream::WeakBind, &mut binds)?;
     add_stream(image, command, Stream::LazyBind, &mut binds)?;
-    Ok(least_clash(image, &mut binds))
+    least_shared(alloc, image, &mut binds)
 }
 
 // Adds the binds of one stream of the command at `command`.
@@ -295,7 +296,18 @@ impl Bind {
     }
 }
 
-// The least place of a bind that clashes with one of the same or of a lesser place. It sorts the binds by their slots.
+// The least place of a bind that clashes with one of the same or of a lesser place. Names that have the same bytes are read
+// in one place, so that few are compared.
+fn least_shared(alloc: Global, image: &Image, binds: &mut [Bind]) -> Result<Option<u64>, AllocError>
+    requires { AreInside (length image.now) binds.old }
+    ensures least { IfOk result (IsLeastPlace (ClashAt image.now binds.old)) }
+    ensures memory { OnErr result (0 < length binds.old) }
+{
+    share_names(alloc, image, binds)?;
+    Ok(least_clash(image, binds))
+}
+
+// The same, where few names have to be compared. It sorts the binds by their slots.
 fn least_clash(image: &Image, binds: &mut [Bind]) -> Option<u64>
     requires { AreInside (length image.now) binds.old }
     ensures { IsLeastPlace (ClashAt image.now binds.old) result }
@@ -338,7 +350,7 @@ fn least_place(image: &Image, binds: &[Bind]) -> u64
     high
 }
 
-// Whether two binds clash, neither of which is at a greater place than the limit.
+// Whether two binds clash that are not past the limit.
 fn clash_by(image: &Image, binds: &[Bind], limit: u64) -> bool
     requires inside { AreInside (length image.now) binds.now }
     requires sorted { IsNonDecreasingBy (λ bind. slot_number bind) binds.now }

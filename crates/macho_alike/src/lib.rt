@@ -1,9 +1,10 @@
 #![tactic(auto)]
-//! Rules of symbols and exports, one by one, and the readers that they keep alike. Some readers trust the groups of the
-//! symbol table, and others the types of its symbols. Some look a name up in the export trie, and others list all names.
-//! No profile judges these rules yet.
+//! Rules of symbols, exports and binds, one by one, and the readers that they keep alike. Some readers trust the groups of
+//! the symbol table, and others the types of its symbols. Some look a name up in the export trie, and others list all names.
+//! Some keep the first bind of a slot, and others the last. No profile judges these rules yet.
 
 pub mod bind_law;
+mod bind_names;
 pub mod binds;
 pub mod exports;
 pub mod law;
