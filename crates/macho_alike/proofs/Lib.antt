@@ -5,9 +5,15 @@ pub mod BindPairs
 pub mod BindRenames
 pub mod BindStreams
 pub mod BindWalks
+pub mod DefinitionMeanings
+pub mod DefinitionWalks
 pub mod ExportPaths
 pub mod ExportWalks
 pub mod Labels
+pub mod MarkedDefinitions
+pub mod NamedSymbols
+pub mod StringIds
+pub mod StringMarks
 pub mod Strings
 pub mod SymbolKinds
 pub mod SymbolWalks

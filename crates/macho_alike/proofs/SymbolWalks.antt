@@ -6,7 +6,7 @@ use Rattle.macho_fields.specs.Image.{commands_of}
 use Rattle.macho_fields.specs.Layers.{NothingBreaks}
 use Rattle.macho_fields.specs.LoadCommands.{symbol_table}
 use Rattle.macho_fields.specs.Rules.{BreaksImage}
-use Rattle.macho_fields.specs.Symbol.{symoff, nsyms}
+use Rattle.macho_fields.specs.Symbol.{symoff, nsyms, AtSymbol}
 use Rattle.macho_fields.specs.declared.load_command.Structure.TheVariants.{SymtabCommand}
 use Rattle.macho_fields.proofs.LoadCommands.{symbols_listed}
 use Rattle.macho_fields.specs.declared.header.loader.TheConstants as loader
@@ -42,9 +42,12 @@ pub record AreLeft (image : List ℕ) (readers : Readers) (all left : List Symbo
   pub search : Searching (λ s. s.place) (IsSeenTwice image symtab) all left
 
 -- an image without a symbol table has no symbols
-pub no_kinds : (image : List ℕ) → None ≡ option_map (symtab_at image) (first_with_cmd image loader.LC_SYMTAB (commands_of image)) → (place : ℕ) → ¬ BreaksSymbolKind image place
-no_kinds image none place (i, c, inside, at_i, _) = none_with_cmd image loader.LC_SYMTAB (no_first (first_with_cmd image loader.LC_SYMTAB (commands_of image)) none) c (i, inside, at_i)
+pub nothing_at : (image : List ℕ) → None ≡ option_map (symtab_at image) (first_with_cmd image loader.LC_SYMTAB (commands_of image)) → (P : ℕ → ℕ → Type 0) (place : ℕ) → ¬ AtSymbol image (commands_of image) P place
+nothing_at image none P place (i, c, inside, at_i, _) = none_with_cmd image loader.LC_SYMTAB (no_first (first_with_cmd image loader.LC_SYMTAB (commands_of image)) none) c (i, inside, at_i)
   where
     no_first : (first : Option ℕ) → None ≡ option_map (symtab_at image) first → first ≡ None
     no_first None e = refl
     no_first (Some d) e = absurd (cc)
+
+pub no_kinds : (image : List ℕ) → None ≡ option_map (symtab_at image) (first_with_cmd image loader.LC_SYMTAB (commands_of image)) → (place : ℕ) → ¬ BreaksSymbolKind image place
+no_kinds image none = nothing_at image none (λ symtab symbol. IsSeenTwice image symtab (symbol_at image symbol))

@@ -2,9 +2,13 @@ pub mod BindLists
 pub mod BindModels
 pub mod BindNames
 pub mod Binds
+pub mod DefinitionModels
+pub mod Definitions
 pub mod ExportModels
 pub mod Exports
 pub mod Labels
+pub mod NotedMeanings
 pub mod Readers
+pub mod StringIds
 pub mod SymbolModels
 pub mod Symbols

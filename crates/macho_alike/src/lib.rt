@@ -1,15 +1,20 @@
 #![tactic(auto)]
-//! Rules of symbols, exports and binds, one by one, and the readers that they keep alike. Some readers trust the groups of
-//! the symbol table, and others the types of its symbols. Some look a name up in the export trie, and others list all names.
-//! Some keep the first bind of a slot, and others the last. No profile judges these rules yet.
+//! Rules of symbols, exports and binds, one by one, and the readers that they keep alike. Some readers trust the groups
+//! of the symbol table, and others the types of its symbols. Some look a name up in the export trie, and others list all
+//! names. Some take the first symbol that defines a name, or the first bind of a slot, and others the last. No profile
+//! judges these rules yet.
 
 pub mod bind_law;
 mod bind_names;
 pub mod binds;
+pub mod definition_law;
+pub mod definitions;
 pub mod exports;
 pub mod law;
+mod string_ids;
 pub mod symbols;
 
 pub use binds::bind_once;
+pub use definitions::definition;
 pub use exports::export_edge;
 pub use symbols::symbol_kind;

@@ -126,7 +126,7 @@ fn is_local_kind(kind: u8) -> bool
 }
 
 // Whether a symbol of this type is one that the image defines for others.
-fn is_defined_kind(kind: u8) -> bool
+pub(crate) fn is_defined_kind(kind: u8) -> bool
     ensures { IsTrue result ↔ IsDefined kind }
 {
     is_external(kind) && !is_of_another(kind)
