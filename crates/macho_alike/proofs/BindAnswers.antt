@@ -31,7 +31,7 @@ use Rattle.macho_alike.specs.declared.binds.Library.{Library}
 use Rattle.macho_alike.specs.declared.binds.Library.TheVariants as library
 use Rattle.macho_alike.proofs.BindPairs.{clash_both_ways}
 
--- What is surely so is so, where a test decides it
+-- a test decides P, and P is not wrong: then it holds
 
 surely : (b : Bool) (P : Type 0) → Decides b P → ¬ ¬ P → P
 surely b P decides sure = elim (cases_Bool b) [ inl t ↦ decides.0 t | inr f ↦ absurd (sure (λ p. false≢true (sym f ∙ decides.1 p))) ]

@@ -22,7 +22,7 @@ added_same P Q old new same added bind = (
 pub added_none : (P : Bind → Type 0) (old : List Bind) → ((bind : Bind) → ¬ P bind) → WereAdded P old old
 added_none P old none bind = (λ has. inl has, λ either. elim either [ inl was ↦ was | inr p ↦ absurd (none bind p) ])
 
--- what follows where a call has ended well, and where it has not
+-- a weaker promise of a call that ends well, and of one that fails
 pub if_ok : {X E : Type 0} (P Q : Type 0) (r : Result X E) → (P → Q) → IfOk r (λ x. P) → IfOk r (λ x. Q)
 if_ok P Q (Ok x) more p = more p
 if_ok P Q (Err e) more p = tt

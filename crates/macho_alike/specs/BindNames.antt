@@ -16,7 +16,7 @@ bind_at binds i =
     slice_index_or binds i
     (record { place = 0; segment = 0; offset = 0; name = record { start = 0; len = 0 }; addend = pos 0; library = None })
 
--- the second bind is the first one, but for where its name is
+-- both binds are the same, except the place of the name
 pub record IsRenamed (image : List ℕ) (one other : Bind) : Type 0 where
   pub place : other.place ≡ one.place
   pub segment : other.segment ≡ one.segment

@@ -143,7 +143,7 @@ IsChainSlot image k offset =
     × ComesTo image chains (slice_index (all_segments image) k) starts page offset))
     offset
 
--- such a pointer begins in the bytes of another one, which is reported at it
+-- the place of a pointer that begins in the bytes of another one
 abbrev pub BreaksChainBindOnce : List ℕ → ℕ → Type 0
 BreaksChainBindOnce image place =
     (k : ℕ) × (one : ℕ) × (other : ℕ) × IsChainSlot image k one × IsChainSlot image k other × (one < other)

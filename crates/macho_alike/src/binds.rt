@@ -33,7 +33,7 @@ pub enum Library {
     Special(u8),
 }
 
-/// What the steps up to a place have set of what is bound, besides a name.
+/// The library and the addend that the steps up to a place have set.
 #[derive(Clone, Copy, Debug, PartialEq, Eq)]
 pub struct Aim {
     /// Where names are looked up.
@@ -102,7 +102,7 @@ pub struct Bind {
 pub enum Compared {
     /// The names and the addends.
     Names,
-    /// The libraries, of those that have one.
+    /// The libraries, if both have one.
     Libraries,
 }
 

@@ -4,6 +4,11 @@
 
 ghost use Rattle.std.specs.Prelude.{ℕ};
 ghost use Rattle.macho_exports.specs.Exports.{BreaksExportNode, BreaksExportTotal};
+ghost use Rattle.macho_tables.specs.Kinds.{BreaksTableRepeated};
+ghost use Rattle.macho_alike.specs.BindModels.{HasOneBind, HasOneSlot, HasChainSlotsApart, HasOneKindOfFixups};
+ghost use Rattle.macho_alike.specs.Binds.{BreaksBindOnce};
+ghost use Rattle.macho_alike.specs.DefinitionModels.{AllDefinitionsAgree, HasOneMeaningOfName};
+ghost use Rattle.macho_alike.specs.Definitions.{BreaksDefinition};
 ghost use Rattle.macho_alike.specs.ExportModels.{HasOneExportOfName};
 ghost use Rattle.macho_alike.specs.Exports.{BreaksExportEdge};
 ghost use Rattle.macho_alike.specs.SymbolModels.{HasOneKind, HasSameGroups, HasOneName};
@@ -29,4 +34,31 @@ pub fn name_has_one_export(image: &[u8])
     requires total { (place : ℕ) → ¬ BreaksExportTotal image.now place }
     requires edge { (place : ℕ) → ¬ BreaksExportEdge image.now place }
     ensures { HasOneExportOfName image.now }
+{}
+
+/// All readers see one meaning of a name that the image defines: those that take its first definition, those that keep the
+/// last, and any others.
+pub fn name_has_one_meaning(image: &[u8])
+    requires { (place : ℕ) → ¬ BreaksDefinition image.now place }
+    ensures ends { HasOneMeaningOfName image.now }
+    ensures all { AllDefinitionsAgree image.now }
+{}
+
+/// All readers see one bind of a slot that opcodes bind: those that list all binds, and those that take the first or the
+/// last. No byte is in two slots.
+pub fn slot_has_one_bind(image: &[u8])
+    requires { (place : ℕ) → ¬ BreaksBindOnce image.now place }
+    ensures bind { HasOneBind image.now }
+    ensures slot { HasOneSlot image.now }
+{}
+
+/// Pointers of chains share no byte, whatever the image is, so each slot has the one bind that its own bytes say.
+pub fn chain_slot_has_one_pointer(image: &[u8])
+    ensures { HasChainSlotsApart image.now }
+{}
+
+/// No image has opcodes and chains.
+pub fn fixups_are_of_one_kind(image: &[u8])
+    requires { (place : ℕ) → ¬ BreaksTableRepeated image.now place }
+    ensures { HasOneKindOfFixups image.now }
 {}

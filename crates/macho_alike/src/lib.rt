@@ -4,10 +4,8 @@
 //! names. Some take the first symbol that defines a name, or the first bind of a slot, and others the last. No profile
 //! judges these rules yet.
 
-pub mod bind_law;
 mod bind_names;
 pub mod binds;
-pub mod definition_law;
 pub mod definitions;
 pub mod exports;
 pub mod law;
