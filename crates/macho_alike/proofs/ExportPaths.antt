@@ -94,7 +94,7 @@ edges_inside (suc count) trie place r is edge has =
       | inr later ↦ edges_inside count trie first.1 others more edge later
     ]
 
-node_edges_inside : (trie : List ℕ) (place : ℕ) (node : Node) → node_at trie place ≡ Some node → (edge : ExportEdge) → Contains node.edges edge → edge.label.start + edge.label.len ≤ length trie
+pub node_edges_inside : (trie : List ℕ) (place : ℕ) (node : Node) → node_at trie place ≡ Some node → (edge : ExportEdge) → Contains node.edges edge → edge.label.start + edge.label.len ≤ length trie
 node_edges_inside trie place node is edge has = by_head (head_at trie place) refl
   where
     by_edges : (head : ExportNode) (edges : Option (List ExportEdge × ℕ)) → head_at trie place ≡ Some head → edges_at head.edge_count trie head.edges ≡ edges → edge.label.start + edge.label.len ≤ length trie
@@ -305,7 +305,7 @@ module _ (image : List ℕ) (nodes : (place : ℕ) → ¬ BreaksExportNode image
         (of_some (λ t. (offset : ℕ) × (table.start + place_of met ≡ t.start + offset) × Rule image (part t.start t.len image) offset) (export_table image) table is
         (place_of met, refl, subst (λ (R : ℕ → Type 0). R (place_of met)) (sym same) (met, among, refl, has)))
 
-    whole : AreWhole trie (met_nodes trie)
+    pub whole : AreWhole trie (met_nodes trie)
     whole = (none_met _ (HasNoEnd trie) EndlessNode refl nodes, none_met _ (PassesTable trie) TooManyBytes refl totals)
 
     clear : HaveNone (IsUnclear trie) (met_nodes trie)

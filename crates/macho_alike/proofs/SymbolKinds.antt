@@ -8,13 +8,13 @@ use Rattle.macho_fields.specs.Field.{string_from}
 use Rattle.macho_fields.specs.Image.{commands_of, with_cmd}
 use Rattle.macho_fields.specs.Symbol.{symoff, nsyms, stroff, n_strx, n_type}
 use Rattle.macho_fields.specs.declared.header.loader.TheConstants.{LC_SYMTAB, LC_DYSYMTAB}
-use Rattle.macho_fields.specs.declared.header.nlist.TheConstants.{N_STAB, N_TYPE, N_UNDF, N_PBUD}
+use Rattle.macho_fields.specs.declared.header.nlist.TheConstants.{N_EXT, N_STAB, N_TYPE, N_UNDF, N_PBUD}
 use Rattle.macho_image.specs.Command.{first_with_cmd}
 use Rattle.macho_image.specs.Symbol.{symbol_at, dysymtab_at}
 use Rattle.macho_image.specs.declared.dysymtab.Dysymtab.{Dysymtab}
 use Rattle.macho_alike.specs.Symbols.{IsExternal, IsOfAnother, IsIn, Differ, IsMisgrouped, IsSeenTwice, symbol_index, BreaksSymbolKind}
 use Rattle.macho_alike.specs.SymbolModels.{symbol_place, HasSymbol, SymbolKind, Local, Defined, Undefined, IsOfType, group_of, IsKindByType, IsKindOf, HasOneKind, HasSameGroups, IsNameWithoutOffset, HasOneName}
-use Rattle.macho_alike.specs.declared.symbols.TheConstants.{N_EXT, SPACE}
+use Rattle.macho_alike.specs.declared.symbols.TheConstants.{SPACE}
 
 -- Each type is of one kind
 

@@ -5,14 +5,13 @@ use Rattle.macho_fields.specs.Field.{string_from}
 use Rattle.macho_fields.specs.Image.{commands_of}
 use Rattle.macho_fields.specs.Symbol.{nsyms, stroff, AtSymbol}
 use Rattle.macho_fields.specs.declared.header.loader.TheConstants.{LC_SYMTAB}
-use Rattle.macho_fields.specs.declared.header.nlist.TheConstants.{N_TYPE}
+use Rattle.macho_fields.specs.declared.header.nlist.TheConstants.{N_TYPE, N_WEAK_DEF}
 use Rattle.macho_image.specs.Command.{first_with_cmd}
 use Rattle.macho_image.specs.Symbol.{symbol_at}
 use Rattle.macho_image.specs.declared.symbol.Symbol.{Symbol}
 use Rattle.macho_alike.specs.SymbolModels.{symbol_place}
 use Rattle.macho_alike.specs.Symbols.{IsDefined}
 use Rattle.macho_alike.specs.declared.definitions.Meaning.{Meaning}
-use Rattle.macho_alike.specs.declared.definitions.TheConstants.{N_WEAK_DEF}
 
 -- it is external and defined, and it has a name
 abbrev pub DefinesName : Symbol → Type 0

@@ -5,12 +5,12 @@ use Rattle.macho_fields.specs.Field.{string_from}
 use Rattle.macho_fields.specs.Image.{commands_of}
 use Rattle.macho_fields.specs.Symbol.{symoff, stroff, AtSymbol}
 use Rattle.macho_fields.specs.declared.header.loader.TheConstants.{LC_DYSYMTAB}
-use Rattle.macho_fields.specs.declared.header.nlist.TheConstants.{N_STAB, N_TYPE, N_UNDF, N_PBUD, NLIST_64_SIZE}
+use Rattle.macho_fields.specs.declared.header.nlist.TheConstants.{N_EXT, N_STAB, N_TYPE, N_UNDF, N_PBUD, NLIST_64_SIZE}
 use Rattle.macho_image.specs.Command.{first_with_cmd}
 use Rattle.macho_image.specs.Symbol.{symbol_at, dysymtab_at}
 use Rattle.macho_image.specs.declared.dysymtab.Dysymtab.{Dysymtab}
 use Rattle.macho_image.specs.declared.symbol.Symbol.{Symbol}
-use Rattle.macho_alike.specs.declared.symbols.TheConstants.{N_EXT, SPACE}
+use Rattle.macho_alike.specs.declared.symbols.TheConstants.{SPACE}
 
 -- By n_type
 

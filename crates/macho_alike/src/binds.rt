@@ -126,14 +126,25 @@ fn opcode_bind_once(alloc: Global, image: &Image) -> Result<Option<u64>, AllocEr
     ensures least { IfOk result (IsLeastPlace (BreaksOpcodeBindOnce image.now)) }
     ensures memory { OnErr result (HasBind image.now) }
 {
-    let Some(command) = dyld_info(image) else {
-        return Ok(None);
-    };
+    let mut binds = opcode_binds(alloc, image)?;
+    least_shared(alloc, image, &mut binds)
+}
+
+// The binds of the bind, the weak and the lazy stream.
+pub(crate) fn opcode_binds(alloc: Global, image: &Image) -> Result<Vec<Bind>, AllocError>
+    requires { NothingBreaks (Breaks image.now None) }
+    ensures all { IfOk result (λ binds. (bind : Bind) → Contains binds.items bind ↔ IsBind image.now bind) }
+    ensures inside { IfOk result (λ binds. AreInside (length image.now) binds.items) }
+    ensures memory { OnErr result (HasBind image.now) }
+{
     let mut binds = Vec::new(alloc);
+    let Some(command) = dyld_info(image) else {
+        return Ok(binds);
+    };
     add_stream(image, command, Stream::Bind, &mut binds)?;
     add_stream(image, command, Stream::WeakBind, &mut binds)?;
     add_stream(image, command, Stream::LazyBind, &mut binds)?;
-    least_shared(alloc, image, &mut binds)
+    Ok(binds)
 }
 
 // Adds the binds of one stream of the command at `command`.
@@ -298,7 +309,11 @@ impl Bind {
 
 // The least place of a bind that clashes with one of the same or of a lesser place. Names that have the same bytes are read
 // in one place, so that few are compared.
-fn least_shared(alloc: Global, image: &Image, binds: &mut [Bind]) -> Result<Option<u64>, AllocError>
+pub(crate) fn least_shared(
+    alloc: Global,
+    image: &Image,
+    binds: &mut [Bind],
+) -> Result<Option<u64>, AllocError>
     requires { AreInside (length image.now) binds.old }
     ensures least { IfOk result (IsLeastPlace (ClashAt image.now binds.old)) }
     ensures memory { OnErr result (0 < length binds.old) }
@@ -415,7 +430,7 @@ fn is_same(image: &Image, one: &Bind, other: &Bind, what: Compared) -> bool
 }
 
 // Whether the two names have the same bytes. One that is in the same place is not read.
-fn is_same_name(image: &Image, one: Span, other: Span) -> bool
+pub(crate) fn is_same_name(image: &Image, one: Span, other: Span) -> bool
     requires one { end_of one ≤ length image.now }
     requires other { end_of other ≤ length image.now }
     ensures { IsTrue result

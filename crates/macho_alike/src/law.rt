@@ -11,8 +11,14 @@ ghost use Rattle.macho_alike.specs.DefinitionModels.{AllDefinitionsAgree, HasOne
 ghost use Rattle.macho_alike.specs.Definitions.{BreaksDefinition};
 ghost use Rattle.macho_alike.specs.ExportModels.{HasOneExportOfName};
 ghost use Rattle.macho_alike.specs.Exports.{BreaksExportEdge};
+ghost use Rattle.macho_alike.specs.ImportModels.{HasOneLibrary};
+ghost use Rattle.macho_alike.specs.Imports.{BreaksImportLibrary};
+ghost use Rattle.macho_alike.specs.IndirectModels.{HasOneNameOfPointer};
+ghost use Rattle.macho_alike.specs.Indirects.{BreaksIndirectName};
 ghost use Rattle.macho_alike.specs.SymbolModels.{HasOneKind, HasSameGroups, HasOneName};
 ghost use Rattle.macho_alike.specs.Symbols.{BreaksSymbolKind};
+ghost use Rattle.macho_alike.specs.TrieModels.{HasOneOrigin};
+ghost use Rattle.macho_alike.specs.TrieSymbols.{BreaksTrieSymbol};
 
 /// All readers see one kind of a symbol. Those that trust the groups show the same symbols of a kind as those that trust
 /// the types.
@@ -44,6 +50,14 @@ pub fn name_has_one_meaning(image: &[u8])
     ensures all { AllDefinitionsAgree image.now }
 {}
 
+/// Where a look-up in the export trie finds an export of the image, all readers see one address of the name, and agree
+/// that the image defines it, and whether weakly: those that look it up, and those that take an external symbol with
+/// the name.
+pub fn name_has_one_address(image: &[u8])
+    requires { (place : ℕ) → ¬ BreaksTrieSymbol image.now place }
+    ensures { HasOneOrigin image.now }
+{}
+
 /// All readers see one bind of a slot that opcodes bind: those that list all binds, and those that take the first or the
 /// last. No byte is in two slots.
 pub fn slot_has_one_bind(image: &[u8])
@@ -61,4 +75,17 @@ pub fn chain_slot_has_one_pointer(image: &[u8])
 pub fn fixups_are_of_one_kind(image: &[u8])
     requires { (place : ℕ) → ¬ BreaksTableRepeated image.now place }
     ensures { HasOneKindOfFixups image.now }
+{}
+
+/// All readers see one library of an undefined symbol: those that trust the symbol, and those that take the library in
+/// which fixups look its name up.
+pub fn symbol_has_one_library(image: &[u8])
+    requires { (place : ℕ) → ¬ BreaksImportLibrary image.now place }
+    ensures { HasOneLibrary image.now }
+{}
+
+/// A bound pointer of a section has one name: loaders bind it to the name that disassemblers show, if they show one.
+pub fn pointer_has_one_name(image: &[u8])
+    requires { (place : ℕ) → ¬ BreaksIndirectName image.now place }
+    ensures { HasOneNameOfPointer image.now }
 {}

@@ -10,11 +10,8 @@ ghost use Rattle.macho_fields.specs.Rules.{BreaksImage as Breaks};
 ghost use Rattle.macho_alike.specs.Symbols.{IsExternal, IsOfAnother, IsLocal, IsDefined, IsUndefined, IsIn, Differ, IsMisgrouped, ShowsString, BreaksSymbolKind};
 
 use macho_fields::Bytes;
-use macho_fields::header::nlist::{N_PBUD, N_STAB, N_TYPE, N_UNDF, NLIST_64_SIZE};
+use macho_fields::header::nlist::{N_EXT, N_PBUD, N_STAB, N_TYPE, N_UNDF, NLIST_64_SIZE};
 use macho_image::{Dysymtab, Image, Symbol, Symtab};
-
-/// The bit of `n_type` that marks an external symbol.
-pub const N_EXT: u8 = 0x1;
 
 // The byte that linkers write as the first string.
 pub(crate) const SPACE: u8 = 0x20;
@@ -133,21 +130,21 @@ pub(crate) fn is_defined_kind(kind: u8) -> bool
 }
 
 // Whether a symbol of this type is one that another image defines.
-fn is_undefined_kind(kind: u8) -> bool
+pub(crate) fn is_undefined_kind(kind: u8) -> bool
     ensures { IsTrue result ↔ IsUndefined kind }
 {
     is_external(kind) && is_of_another(kind)
 }
 
 // Whether a symbol of this type is external, and no entry for debuggers.
-fn is_external(kind: u8) -> bool
+pub(crate) fn is_external(kind: u8) -> bool
     ensures { IsTrue result ↔ IsExternal kind }
 {
     kind & N_STAB == 0 && kind & N_EXT != 0
 }
 
 // Whether the type is one of symbols that another image defines.
-fn is_of_another(kind: u8) -> bool
+pub(crate) fn is_of_another(kind: u8) -> bool
     ensures { IsTrue result ↔ IsOfAnother kind }
 {
     kind & N_TYPE == N_UNDF || kind & N_TYPE == N_PBUD
