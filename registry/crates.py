@@ -57,9 +57,9 @@ def constant_lines(bits: str, name: str, number: str, line: str, indent: str = "
 
 
 def header(module: str, table: Table) -> List[str]:
-    """The constants of a header, and then a module of the offsets of each structure."""
+    """The constants of a header that crates use, and then a module of the offsets of each structure."""
     parts = [constant_lines(it.bits, it.name, rust_number(it.number), it.line)
-             for it in table("constants") if it.module == module]
+             for it in table("constants") if it.module == module and it.crates == "yes"]
     if module == "loader":
         parts += [constant_lines("32", it.name, it.number, it.line) for it in table("filetypes") if it.judged == "yes"]
         parts += [constant_lines("32", it.name, command_number(it.number), it.line) for it in table("commands")]

@@ -91,8 +91,9 @@ enum {
                                 hold. rules/linked.md explains the rules */
     KESVUOT_UNAMBIGUOUS = 4, /* readers that choose slices, segments, sections, load commands and entry points in
                                 different ways choose the same ones, and a kernel that maps whole pages shows the bytes
-                                that the headers describe. The profile does not speak of names of symbols, exports,
-                                binds and signatures. rules/unambiguous.md explains the rules */
+                                that the headers describe. They find one meaning of a name, one bind of a location, one
+                                library of a symbol, and one identity in a signature. rules/unambiguous.md explains the
+                                rules */
     KESVUOT_SEALED = 5       /* each image has a code signature; each code directory has the hashes of all bytes before
                                 the signature and of the blobs in special slots; no byte of the signature can be
                                 executed; and each nonzero byte from the signature on is in the signature's header, its
@@ -203,6 +204,15 @@ enum {
     KESVUOT_SECTION_NAME = 96,
     KESVUOT_SECTION_ALONE = 97,
     KESVUOT_ENTRY_ONE = 98,
+    KESVUOT_BIND_ONCE = 99,
+    KESVUOT_EXPORT_EDGE = 100,
+    KESVUOT_SYMBOL_KIND = 101,
+    KESVUOT_SYMBOL_TOTAL = 102,
+    KESVUOT_EXPORT_SYMBOL = 103,
+    KESVUOT_INDIRECT_NAME = 104,
+    KESVUOT_IMPORT_LIBRARY = 105,
+    KESVUOT_SIGNATURE_SLOT = 106,
+    KESVUOT_DIRECTORY_AGREE = 107,
     /* of the sealed profile: rules/sealed.md explains them */
     KESVUOT_SIGNATURE_MISSING = 78,
     KESVUOT_SIGNATURE_EXECUTABLE = 85,
@@ -216,7 +226,8 @@ enum {
 
 struct kesvuot_verdict {
     uint64_t place;    /* REFUSED: the least offset in the file at which `rule` is broken */
-    uint64_t slices;   /* OK: how many slices the file has, 1 if it is not universal */
+    uint64_t slices;   /* OK: how many slices the file has, 1 if it is not universal. Nothing is judged in a slice for
+                          which kesvuot_read_image returns UNREAD: to count these, call it for each */
     uint32_t rule;     /* REFUSED: the first broken rule */
     uint32_t reserved; /* 0 */
 };
@@ -451,10 +462,11 @@ struct kesvuot_image {
     uint64_t build_count;      /* of kesvuot_read_builds */
     struct kesvuot_library id; /* HAS_ID: what the image is as a library. An MH_DYLIB has it, and other images do not */
     uint32_t cputype;          /* any number. In a universal file the table has the same, and so for cpusubtype */
-    uint32_t cpusubtype;       /* without the high byte, CPU_SUBTYPE_MASK. Any number */
-    uint32_t capabilities;     /* that byte, such as the version of arm64e's ABI. Any number below 256 */
+    uint32_t cpusubtype;       /* without the high byte, CPU_SUBTYPE_MASK, both of the header and, after UNREAD, of the
+                                  table. Any number */
+    uint32_t capabilities;     /* that byte of the header, such as the version of arm64e's ABI. Any number below 256 */
     uint32_t filetype;         /* one that rules/layout.md lists: one of KESVUOT_MH_.. */
-    uint32_t flags;            /* any number */
+    uint32_t flags;            /* any number: bits such as KESVUOT_MH_TWOLEVEL */
     uint32_t has;              /* KESVUOT_HAS_.. */
     uint32_t groups[6];        /* HAS_DYSYMTAB: ilocalsym, nlocalsym, iextdefsym, nextdefsym, iundefsym, nundefsym. An
                                   index is any number if its count is 0. Else index + count is at most symbol_count */
@@ -467,7 +479,7 @@ struct kesvuot_image {
  * OK: all fields are written. The fields of parts that the image does not have are 0. This is not a verdict on the
  * file.
  * UNREAD: the slice is 32-bit or big-endian. `slice` is written, and `cputype` and `cpusubtype` of the universal table.
- * All other fields are 0. Acceptance says nothing about what is inside the slice.
+ * All other fields are 0, also `capabilities`. Acceptance says nothing about what is inside the slice.
  * NONE: the file has no such slice. All fields are 0. REFUSED: no accepted file has such bytes there. All fields are
  * 0. */
 uint32_t kesvuot_read_image(const void *file, size_t size, uint64_t slice, struct kesvuot_image *image);
@@ -517,7 +529,8 @@ struct kesvuot_section {         /* section_64 */
     uint32_t align;              /* the exponent of a power of 2. Any number: 1 << align can be undefined */
     uint32_t reloff;             /* any number if nreloc is 0 */
     uint32_t nreloc;             /* all 8 * nreloc bytes from reloff on lie in the slice */
-    uint32_t flags;              /* any number. The low byte is the type, on which zero_fill depends */
+    uint32_t flags;              /* any number. The low byte (SECTION_TYPE) is the type, one of KESVUOT_S_.., on which
+                                    zero_fill depends, and the other bits are KESVUOT_S_ATTR_.. */
     uint32_t reserved1;          /* any number. By linked, all stubs or symbol pointers of the section have indirect
                                     symbols, and this is the index of the first one */
     uint32_t reserved2;          /* any number. By linked, not 0 if the section has stubs, whose size in bytes it is */
@@ -546,6 +559,20 @@ struct kesvuot_command {       /* load_command */
 /* The index of no section. */
 #define KESVUOT_NO_SECTION UINT32_MAX
 
+/* How to read `type` and `desc`, by the constants of <mach-o/nlist.h> below, such as KESVUOT_N_STAB:
+ * - If `type & N_STAB` is not 0, it is a debugging entry. Its `type` says which, and nothing of the following holds.
+ * - `type & N_TYPE` is N_UNDF or N_PBUD if another image defines it, N_SECT if it is defined in a section, N_ABS if its
+ *   value is a number that no slide changes, N_INDR if it stands for another symbol, or any other number.
+ * - `type & N_EXT`: it is external. `type & N_PEXT`: it was external, and a linker has made it private.
+ * - `desc` of an undefined symbol. N_WEAK_REF: it may be missing when the image is loaded. `desc >> 8` is the ordinal
+ *   of a library, if `flags` of the image have MH_TWOLEVEL, and the type is N_PBUD, or N_UNDF with the value 0. It is
+ *   SELF_LIBRARY_ORDINAL (the image itself), DYNAMIC_LOOKUP_ORDINAL (any image), EXECUTABLE_ORDINAL (the program), or
+ *   counts from 1 on in the order of kesvuot_read_libraries.
+ * - `desc` of a defined symbol. N_WEAK_DEF: another definition can take its place. N_ALT_ENTRY, with the type N_SECT:
+ *   it is an entry in the middle of what the symbol before it names.
+ * - `value` of N_INDR is the offset in the strings of the name for which it stands: kesvuot_symbol_name takes it.
+ * Only the linked profile judges ordinals and the values of N_INDR: in a file that it accepts the library is there, and
+ * the name ends in the strings. In any other test that the number is not above library_count, or is below 2^32. */
 struct kesvuot_symbol { /* nlist_64 */
     uint64_t value;     /* any number */
     uint32_t strx;      /* 0 if it has no name, otherwise less than strings_size. Pass it to kesvuot_symbol_name */
@@ -963,6 +990,18 @@ uint32_t kesvuot_find_address(const void *file, size_t size, const struct kesvuo
 #define KESVUOT_MH_DYLIB 6
 #define KESVUOT_MH_BUNDLE 8
 
+/* The attributes in the flags of a section. (mach-o/loader.h) */
+#define KESVUOT_S_ATTR_PURE_INSTRUCTIONS 0x80000000
+#define KESVUOT_S_ATTR_NO_TOC 0x40000000
+#define KESVUOT_S_ATTR_STRIP_STATIC_SYMS 0x20000000
+#define KESVUOT_S_ATTR_NO_DEAD_STRIP 0x10000000
+#define KESVUOT_S_ATTR_LIVE_SUPPORT 0x8000000
+#define KESVUOT_S_ATTR_SELF_MODIFYING_CODE 0x4000000
+#define KESVUOT_S_ATTR_DEBUG 0x2000000
+#define KESVUOT_S_ATTR_SOME_INSTRUCTIONS 0x400
+#define KESVUOT_S_ATTR_EXT_RELOC 0x200
+#define KESVUOT_S_ATTR_LOC_RELOC 0x100
+
 /* The type in the flags of a section, and the types of zero-fill sections. (mach-o/loader.h) */
 #define KESVUOT_SECTION_TYPE 0xff
 #define KESVUOT_S_ZEROFILL 0x1
@@ -979,9 +1018,45 @@ uint32_t kesvuot_find_address(const void *file, size_t size, const struct kesvuo
 /* The type of a section of offsets of initializers. (mach-o/loader.h) */
 #define KESVUOT_S_INIT_FUNC_OFFSETS 0x16
 
+/* The other types of sections. (mach-o/loader.h) */
+#define KESVUOT_S_REGULAR 0x0
+#define KESVUOT_S_CSTRING_LITERALS 0x2
+#define KESVUOT_S_4BYTE_LITERALS 0x3
+#define KESVUOT_S_8BYTE_LITERALS 0x4
+#define KESVUOT_S_LITERAL_POINTERS 0x5
+#define KESVUOT_S_MOD_INIT_FUNC_POINTERS 0x9
+#define KESVUOT_S_MOD_TERM_FUNC_POINTERS 0xa
+#define KESVUOT_S_COALESCED 0xb
+#define KESVUOT_S_INTERPOSING 0xd
+#define KESVUOT_S_16BYTE_LITERALS 0xe
+#define KESVUOT_S_DTRACE_DOF 0xf
+#define KESVUOT_S_THREAD_LOCAL_REGULAR 0x11
+#define KESVUOT_S_THREAD_LOCAL_VARIABLES 0x13
+#define KESVUOT_S_THREAD_LOCAL_INIT_FUNCTION_POINTERS 0x15
+
 /* The marks of an indirect entry. (mach-o/loader.h) */
 #define KESVUOT_INDIRECT_SYMBOL_LOCAL 0x80000000
 #define KESVUOT_INDIRECT_SYMBOL_ABS 0x40000000
+
+/* The flags of an image. (mach-o/loader.h) */
+#define KESVUOT_MH_NOUNDEFS 0x1
+#define KESVUOT_MH_DYLDLINK 0x4
+#define KESVUOT_MH_BINDATLOAD 0x8
+#define KESVUOT_MH_PREBOUND 0x10
+#define KESVUOT_MH_TWOLEVEL 0x80
+#define KESVUOT_MH_FORCE_FLAT 0x100
+#define KESVUOT_MH_SUBSECTIONS_VIA_SYMBOLS 0x2000
+#define KESVUOT_MH_WEAK_DEFINES 0x8000
+#define KESVUOT_MH_BINDS_TO_WEAK 0x10000
+#define KESVUOT_MH_ALLOW_STACK_EXECUTION 0x20000
+#define KESVUOT_MH_NO_REEXPORTED_DYLIBS 0x100000
+#define KESVUOT_MH_PIE 0x200000
+#define KESVUOT_MH_DEAD_STRIPPABLE_DYLIB 0x400000
+#define KESVUOT_MH_HAS_TLV_DESCRIPTORS 0x800000
+#define KESVUOT_MH_NO_HEAP_EXECUTION 0x1000000
+#define KESVUOT_MH_APP_EXTENSION_SAFE 0x2000000
+#define KESVUOT_MH_SIM_SUPPORT 0x8000000
+#define KESVUOT_MH_DYLIB_IN_CACHE 0x80000000
 
 /* The flags of an export: a mask, its values, and bits. (mach-o/loader.h) */
 #define KESVUOT_EXPORT_SYMBOL_FLAGS_KIND_MASK 0x3
@@ -1001,6 +1076,7 @@ uint32_t kesvuot_find_address(const void *file, size_t size, const struct kesvuo
 #define KESVUOT_DICE_KIND_ABS_JUMP_TABLE32 5
 
 /* The processors of the 64-bit architectures. (mach/machine.h) */
+#define KESVUOT_CPU_ARCH_ABI64 0x1000000
 #define KESVUOT_CPU_TYPE_X86_64 0x1000007
 #define KESVUOT_CPU_TYPE_ARM64 0x100000c
 #define KESVUOT_CPU_SUBTYPE_MASK 0xff000000
@@ -1009,10 +1085,31 @@ uint32_t kesvuot_find_address(const void *file, size_t size, const struct kesvuo
 #define KESVUOT_CPU_SUBTYPE_ARM64_ALL 0
 #define KESVUOT_CPU_SUBTYPE_ARM64E 2
 
-/* The type of a symbol: two masks, and the value of the second one of a section's symbol. (mach-o/nlist.h) */
+/* The type of a symbol: masks, two bits, and the values of `N_TYPE`. (mach-o/nlist.h) */
 #define KESVUOT_N_STAB 0xe0
+#define KESVUOT_N_PEXT 0x10
 #define KESVUOT_N_TYPE 0xe
+#define KESVUOT_N_EXT 0x1
+#define KESVUOT_N_UNDF 0x0
+#define KESVUOT_N_ABS 0x2
+#define KESVUOT_N_INDR 0xa
+#define KESVUOT_N_PBUD 0xc
 #define KESVUOT_N_SECT 0xe
+
+/* The description of a symbol: bits of `n_desc`. Its upper 8 bits are the ordinal of a library, if the symbol is undefined. (mach-o/nlist.h) */
+#define KESVUOT_N_ARM_THUMB_DEF 0x8
+#define KESVUOT_REFERENCED_DYNAMICALLY 0x10
+#define KESVUOT_N_NO_DEAD_STRIP 0x20
+#define KESVUOT_N_WEAK_REF 0x40
+#define KESVUOT_N_WEAK_DEF 0x80
+#define KESVUOT_N_SYMBOL_RESOLVER 0x100
+#define KESVUOT_N_ALT_ENTRY 0x200
+#define KESVUOT_N_COLD_FUNC 0x400
+
+/* The ordinals of libraries that are no index: of the image itself, of all images, and of the program. (mach-o/nlist.h) */
+#define KESVUOT_SELF_LIBRARY_ORDINAL 0x0
+#define KESVUOT_DYNAMIC_LOOKUP_ORDINAL 0xfe
+#define KESVUOT_EXECUTABLE_ORDINAL 0xff
 
 /* The bits of a protection. (mach/vm_prot.h) */
 #define KESVUOT_VM_PROT_READ 1
@@ -1022,6 +1119,13 @@ uint32_t kesvuot_find_address(const void *file, size_t size, const struct kesvuo
 /* Code signatures: slots of code directories, and types of hashes. (kern/cs_blobs.h) */
 #define KESVUOT_CSSLOT_CODEDIRECTORY 0
 #define KESVUOT_CSSLOT_ALTERNATE_CODEDIRECTORIES 0x1000
+#define KESVUOT_CSSLOT_REQUIREMENTS 2
+#define KESVUOT_CSSLOT_ENTITLEMENTS 5
+#define KESVUOT_CSSLOT_DER_ENTITLEMENTS 7
+#define KESVUOT_CSSLOT_LAUNCH_CONSTRAINT_SELF 8
+#define KESVUOT_CSSLOT_LIBRARY_CONSTRAINT 11
+#define KESVUOT_CSSLOT_SIGNATURESLOT 0x10000
+#define KESVUOT_CSSLOT_TICKETSLOT 0x10002
 #define KESVUOT_CS_HASHTYPE_SHA1 1
 #define KESVUOT_CS_HASHTYPE_SHA256 2
 #define KESVUOT_CS_HASHTYPE_SHA256_TRUNCATED 3

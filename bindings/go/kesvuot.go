@@ -5,10 +5,15 @@
 //		return err // such as "refused: segment-file at 0x198"
 //	}
 //	for _, image := range file.Images() {
+//		fmt.Println(image.Arch())
 //		for _, segment := range image.Segments() {
 //			fmt.Printf("%s has %d bytes\n", segment.Name, len(segment.Bytes))
 //		}
 //	}
+//
+// The plain values of an image are fields, and each table is a method that returns a slice of rows, whose values are
+// fields. Methods of a row decode its bits, such as Kind of a Symbol, and methods of the image read the bytes of the file
+// for a row, such as Name.
 //
 // The verdict and all parts come from libkesvuot, whose calls are proved. The bytes of each part of an accepted file
 // lie in the bytes that were passed: test no part. They are slices of those bytes, and nothing is copied.
@@ -29,6 +34,7 @@
 package kesvuot
 
 import (
+	"bytes"
 	"errors"
 	"fmt"
 	"io"
@@ -61,8 +67,9 @@ const (
 	// rules/linked.md explains the rules.
 	Linked Profile = 3
 	// Unambiguous: readers that choose slices, segments, sections, load commands and entry points in different ways choose
-	// the same ones, and a kernel that maps whole pages shows the bytes that the headers describe. The profile does not
-	// speak of names of symbols, exports, binds and signatures. rules/unambiguous.md explains the rules.
+	// the same ones, and a kernel that maps whole pages shows the bytes that the headers describe. They find one meaning
+	// of a name, one bind of a location, one library of a symbol, and one identity in a signature. rules/unambiguous.md
+	// explains the rules.
 	Unambiguous Profile = 4
 	// Sealed: each image has a code signature; each code directory has the hashes of all bytes before the signature and of
 	// the blobs in special slots; no byte of the signature can be executed; and each nonzero byte from the signature on is
@@ -100,11 +107,11 @@ const limit = 1 << 32
 // VerifyFile reads a file into memory, and judges it as Verify does. Links are followed. A folder, a pipe, a socket or
 // a device is not read, and neither is a file of more than 4 GiB. The error is one of Verify, or one of reading.
 func VerifyFile(path string, profile Profile) (*File, error) {
-	bytes, err := readFile(path, limit)
+	data, err := readFile(path, limit)
 	if err != nil {
 		return nil, err
 	}
-	return Verify(bytes, profile)
+	return Verify(data, profile)
 }
 
 // readFile returns the bytes of a regular file, of which there are no more than the limit.
@@ -122,11 +129,19 @@ func readFile(path string, limit int64) ([]byte, error) {
 		return nil, err
 	}
 	defer file.Close()
-	bytes, err := io.ReadAll(io.LimitReader(file, limit+1))
-	if err == nil && int64(len(bytes)) > limit {
+	// Room for the whole file, and for the read that finds its end. The file may grow while it is read.
+	var data bytes.Buffer
+	if known.Size() <= limit {
+		data.Grow(int(known.Size()) + bytes.MinRead)
+		_, err = data.ReadFrom(io.LimitReader(file, limit+1))
+	}
+	if known.Size() > limit || int64(data.Len()) > limit {
 		err = &os.PathError{Op: "read", Path: path, Err: fmt.Errorf("more than %d bytes", limit)}
 	}
-	return bytes, err
+	if err != nil {
+		return nil, err
+	}
+	return data.Bytes(), nil
 }
 
 // A File was accepted.
@@ -147,12 +162,15 @@ type Slice struct {
 	Bytes []byte
 	// Place is where the slice begins in the file: 0 exactly if the file is not universal.
 	Place uint64
-	// CPUType and CPUSubtype are those of the image, or of the universal table if the slice is not read. The second is
-	// without the capability byte (CPU_SUBTYPE_MASK).
+	// CPUType and CPUSubtype are from the header of the image, or from the universal table if the slice is not read.
+	// Either way the second is without the capability byte (CPU_SUBTYPE_MASK).
 	CPUType, CPUSubtype uint32
 	// Image is the image of the slice. It is nil if the slice is of 32 bits or big-endian: what is in it was not judged.
 	Image *Image
 }
+
+// Arch returns the name of the architecture, such as "arm64e", as ArchName has it.
+func (slice Slice) Arch() string { return ArchName(slice.CPUType, slice.CPUSubtype) }
 
 // Slice returns the slice with this index, from 0 on, in the order of the universal table. The time does not depend on
 // the number of slices. It panics if there is no such slice.
@@ -163,12 +181,32 @@ func (file *File) Slice(index int) Slice {
 	return readSlice(file.bytes, uint64(index))
 }
 
+// Slices returns all slices, in the order of the universal table.
+func (file *File) Slices() []Slice {
+	slices := make([]Slice, file.sliceCount)
+	for index := range slices {
+		slices[index] = file.Slice(index)
+	}
+	return slices
+}
+
+// UnreadSlices returns the slices without an image, in which nothing was judged.
+func (file *File) UnreadSlices() []Slice {
+	var unread []Slice
+	for _, slice := range file.Slices() {
+		if slice.Image == nil {
+			unread = append(unread, slice)
+		}
+	}
+	return unread
+}
+
 // Images returns the images of all slices that are read. There is at least one.
 func (file *File) Images() []*Image {
 	var images []*Image
-	for index := 0; index < file.sliceCount; index++ {
-		if image := file.Slice(index).Image; image != nil {
-			images = append(images, image)
+	for _, slice := range file.Slices() {
+		if slice.Image != nil {
+			images = append(images, slice.Image)
 		}
 	}
 	return images

@@ -4,7 +4,7 @@ are the questions to which two readers of a file give different answers.
 
 A reader is a function of a file, or of a 64-bit slice, and of what the question is about. Where the verifier answers a
 question too, the first reader answers as the verifier does. crates/macho_readers/specs/Models.antt has most of the
-readers as relations.
+readers as relations. linked_readers.py has the readers of linked data.
 
 The readers judge nothing, and take for granted that the linked profile accepts the file. From
 tests/reference/oracle.py they take the entries of the table, and the commands, segments and sections of an image.
@@ -27,6 +27,8 @@ from kesvuot.constants import (
     PLATFORM_WATCHOS, S_GB_ZEROFILL, S_THREAD_LOCAL_ZEROFILL, S_ZEROFILL, SECTION_TYPE, VM_PROT_WRITE)
 from reference import oracle
 
+from . import linked_readers as linked
+from .linked_readers import Linked
 from .plain_dyld import LOADS, Breach, load_opcodes
 from .plain_reader import Part, start_of_thread
 
@@ -113,6 +115,10 @@ class Slice:
     def where(self, address: int) -> Optional[Fields]:
         """The segment of an address by the verifier."""
         return first(it for it in self.mapped if it.vmaddr <= address < it.vmaddr + it.vmsize)
+
+    @cached_property
+    def linked(self) -> Linked:
+        return Linked(self.image)
 
     @cached_property
     def in_opcodes(self) -> Set[Optional[int]]:
@@ -760,6 +766,36 @@ QUESTIONS_OF_A_SLICE = (
     Question("start of the program", has_entry,
              (begin_by_first, begin_by_last, begin_of_program, begin_by_offset)),
     Question("code at the start", has_entry, (entry_is_code, entry_by_data_in_code)),
+    Question("export of a name", linked.names_of_exports,
+             (linked.export_by_look_up, linked.first_listed_export, linked.last_listed_export)),
+    Question("address of an exported name", linked.names_of_both,
+             (linked.address_by_trie, linked.address_by_first_symbol, linked.address_by_last_symbol)),
+    Question("meaning of a defined name", linked.names_of_definitions,
+             (linked.first_definition, linked.last_definition)),
+    Question("kind of a symbol", linked.all_symbols,
+             (linked.kind_by_type, linked.kind_by_first_group, linked.kind_by_last_group)),
+    Question("name of a symbol without an offset", linked.symbols_without_offset,
+             (linked.no_name, linked.name_of_first_string)),
+    Question("name of a pointer", linked.slots,
+             (linked.first_bound_name, linked.last_bound_name, linked.name_by_indirect_entry,
+              linked.other_name_by_indirect_entry)),
+    Question("addend of a pointer", linked.slots, (linked.first_addend, linked.last_addend)),
+    Question("library of a pointer", linked.slots, (linked.first_library, linked.last_library)),
+    Question("pointer with a byte", linked.bytes_of_slots, (linked.first_slot, linked.last_slot)),
+    Question("library of an undefined symbol", linked.undefined_symbols,
+             (linked.library_by_symbol, linked.library_by_first_bind, linked.library_by_last_bind)),
+    Question("blob of a slot", linked.slots_of_blobs,
+             (linked.first_blob_of_slot, linked.last_blob_of_slot, linked.first_blob_of_both, linked.last_blob_of_both,
+              linked.first_blob_of_magic, linked.last_blob_of_magic)),
+    Question("identity of the program", linked.facts,
+             (linked.said_by_slot_0, linked.said_by_first, linked.said_by_last, linked.said_by_best)),
+    Question("directory with the best hashes", linked.has_signature, (linked.first_best, linked.last_best)),
+    Question("limit of a directory", linked.all_directories, (linked.limit_of_64_bits, linked.limit_of_32_bits)),
+    Question("pages of a directory", linked.all_directories, (linked.pages_without_bound, linked.pages_of_a_byte)),
+    Question("identifier of a directory", linked.all_directories,
+             (linked.identifier_at_any, linked.identifier_past_0, linked.identifier_past_fields)),
+    Question("team of a directory", linked.all_directories, (linked.team_past_0, linked.team_past_fields)),
+    Question("parts of a directory", linked.all_directories, (linked.parts_in_blob, linked.parts_in_signature)),
 )
 
 

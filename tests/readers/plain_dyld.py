@@ -562,8 +562,13 @@ class Dyld:
             name = name[len(label):]
 
     def load(self):
-        """Follows the streams of each command that names some, and the chains of each chain table. Then it reads the
-        exports, the function starts and the data in code, which still are those of the file."""
+        """Writes the fixups. Then it reads the exports, the function starts and the data in code, which still are those
+        of the file."""
+        self.fix_up()
+        self.visit()
+
+    def fix_up(self):
+        """Follows the streams of each command that names some, and the chains of each chain table."""
         for command in self.image.listed:
             if command.cmd == LC_DYLD_CHAINED_FIXUPS:
                 self.follow_chains(command.dataoff, command.datasize)
@@ -572,6 +577,9 @@ class Dyld:
                 self.follow("bind", command.bind_off, command.bind_size)
                 self.follow("weak", command.weak_bind_off, command.weak_bind_size)
                 self.follow("lazy", command.lazy_bind_off, command.lazy_bind_size)
+
+    def visit(self):
+        """Reads what tools do."""
         for command in self.image.listed:
             if command.cmd == LC_DYLD_EXPORTS_TRIE:
                 self.visit_exports(command.dataoff, command.datasize)

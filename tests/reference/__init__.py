@@ -5,6 +5,8 @@ import importlib.util
 from pathlib import Path
 
 ORACLE = Path(__file__).parent / "oracle.py"
+# The rules that no file breaks first: signature-slot of the unambiguous profile judges all slots, and stands before it.
+HIDDEN = {"directory-repeated"}
 
 
 def load(path=ORACLE):

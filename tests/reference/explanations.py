@@ -1341,6 +1341,89 @@ def entry_one(image: Any, place: int) -> Explanation:
     raise ValueError("no data")
 
 
+def bind_once(image: Any, place: int) -> Explanation:
+    run = runs_up_to(image, place)[-1]
+    return of_opcode(image, place, segment_part(image, image.segments[run.segment]), run.cursor, run.segment)
+
+
+def export_edge(image: Any, place: int) -> Explanation:
+    labels = oracle.read_node(image, oracle.table_of(image, "exports"), place).labels
+    for later, label in enumerate(labels):
+        # Where a label is empty, it is compared with itself.
+        others = [later] if not label else [
+            at for at, other in enumerate(labels[:later]) if label.startswith(other) or other.startswith(label)]
+        if others:
+            return of_node(image, place, later, others[0])
+    raise ValueError("no label is empty, and none begins with another one")
+
+
+def group_of(n_type: int) -> int:
+    """The group that the type of a symbol says: 0 is local, 1 defined, and 2 undefined."""
+    if n_type & oracle.N_STAB or not n_type & oracle.N_EXT:
+        return 0
+    return 2 if n_type & oracle.N_TYPE in (oracle.N_UNDF, oracle.N_PBUD) else 1
+
+
+def symbol_kind(image: Any, place: int) -> Explanation:
+    symtab, dysymtab = image.only(oracle.LC_SYMTAB), image.only(oracle.LC_DYSYMTAB)
+    index, own = (place - symtab.symoff) // 16, group_of(image.data[place + 4])
+    if dysymtab:
+        numbers = [little(image.data, dysymtab.place + 8 + 4 * field) for field in range(6)]
+        groups = [Part("group", it, numbers[2 * it], numbers[2 * it + 1], dysymtab.place) for it in range(3)]
+        if [it.index for it in groups if it.start <= index < it.start + it.size] != [own]:
+            return of_symbol(image, place, NONE, groups[own], index, groups[own].start)
+    size = len(oracle.string_at(image, symtab.stroff))
+    return of_symbol(image, place, NONE, Part("name", NO_INDEX, symtab.stroff, size, symtab.place), index, size)
+
+
+def has_name(symbol: Any) -> bool:
+    """Whether a symbol is external, and has a name."""
+    return group_of(symbol.n_type) > 0 and symbol.n_strx > 0
+
+
+def symbol_total(image: Any, place: int) -> Explanation:
+    names = [oracle.symbol_string(image, it.n_strx) for it in image.symbols if it.place <= place and has_name(it)]
+    return of_symbol(image, place, NONE, NONE, sum(map(len, names)) + len(names), image.length)
+
+
+def export_symbol(image: Any, place: int) -> Explanation:
+    own = next(it for it in image.symbols if it.place == place)
+    wanted = oracle.symbol_string(image, own.n_strx)
+
+    def says(symbol: Any) -> tuple[int, int, int]:
+        return symbol.n_value, symbol.n_type & oracle.N_TYPE, symbol.n_desc & oracle.N_WEAK_DEF
+
+    for index, it in enumerate(image.symbols if group_of(own.n_type) == 1 else []):
+        is_other = it.place < place and has_name(it) and group_of(it.n_type) == 1 and says(it) != says(own)
+        if is_other and oracle.symbol_string(image, it.n_strx) == wanted:
+            return of_symbol(image, place, NONE, structure("symbol", it.place, 16, index), own.n_value, it.n_value)
+    nodes = {node.place: node for node in oracle.walk(image)[0]}
+    node = oracle.look_up(oracle.table_of(image, "exports").start, nodes, wanted)
+    return of_symbol(image, place, NONE, NONE, own.n_value, image.base + export_at(image, node.place).offsets[0])
+
+
+def indirect_name(image: Any, place: int) -> Explanation:
+    found = indirect_index(image, place)
+    return found._replace(value=found.at.index, limit=little(image.data, place))
+
+
+def import_library(image: Any, place: int) -> Explanation:
+    return symbol_library(image, place)
+
+
+def signature_slot(image: Any, place: int) -> Explanation:
+    slot, index = big(image.data, place), signature_entry(image, place).index
+    blobs = signature_blobs(image)
+    earlier = next((blob for other, blob in blobs[:index] if other == slot), NONE)
+    return of_blob(image, place, earlier, slot, big(image.data, blobs[index][1].start))
+
+
+def directory_agree(image: Any, place: int) -> Explanation:
+    own = blob_part(image, signature_entry(image, place))
+    first = next(blob for slot, blob in signature_blobs(image) if slot in oracle.DIRECTORY_SLOTS)
+    return of_blob(image, place, first, image.data[own.start + 37], image.data[first.start + 37])
+
+
 OF_FILE = {rule.__name__: rule for rule in (
     magic, fat_truncated, fat_slice_outside, fat_slice_in_table, fat_align, fat_overlap, fat_duplicate,
     fat_slice_magic, fat_empty, fat_stray_byte, fat_count, fat_header, fat_page)}
@@ -1355,5 +1438,6 @@ OF_IMAGE = {rule.__name__: rule for rule in (
     data_in_code, init_offset, signature_blob, signature_directory, signature_whole, symbol_library, symbol_value, symbol_indirect,
     indirect_range, obsolete_table, relocation, thread, command_content, signature_missing, signature_executable,
     directory_repeated, signature_slack, signature_hash, command_known, command_once, segment_name, segment_page,
-    segment_protection, bytes_encrypted, number_shift, section_name, section_alone, entry_one)}
+    segment_protection, bytes_encrypted, number_shift, section_name, section_alone, entry_one, bind_once, export_edge,
+    symbol_kind, symbol_total, export_symbol, indirect_name, import_library, signature_slot, directory_agree)}
 OF_IMAGE.update(rebase_slot=bad_slot, bind_slot=bad_slot, rebase_total=total, bind_total=total)

@@ -134,7 +134,8 @@ SG_PROTECTED_VERSION_1 = 0x8
 INDIRECT_SYMBOL_LOCAL, INDIRECT_SYMBOL_ABS = 0x80000000, 0x40000000
 MH_TWOLEVEL = 0x80
 # mach-o/nlist.h
-N_STAB, N_TYPE, N_SECT = 0xe0, 0x0e, 0x0e
+N_STAB, N_TYPE, N_EXT, N_SECT = 0xe0, 0x0e, 0x01, 0x0e
+N_WEAK_DEF = 0x80
 N_UNDF, N_INDR, N_PBUD = 0x0, 0xa, 0xc
 DYNAMIC_LOOKUP_ORDINAL, EXECUTABLE_ORDINAL = 0xfe, 0xff
 # mach/vm_prot.h
@@ -148,7 +149,7 @@ LC_DYLD_CHAINED_FIXUPS = 0x80000034
 
 # The opcodes of LC_DYLD_INFO: the types that are judged.
 REBASE_TYPE_POINTER, BIND_TYPE_POINTER = 1, 1
-BIND_SPECIAL_DYLIB_WEAK_LOOKUP = -3
+BIND_SPECIAL_DYLIB_MAIN_EXECUTABLE, BIND_SPECIAL_DYLIB_FLAT_LOOKUP, BIND_SPECIAL_DYLIB_WEAK_LOOKUP = -1, -2, -3
 
 # Chained fixups: the sizes of a page; how many ordinals, the greatest ones, are below 0; the start of a page without
 # a chain; and the bytes of a page start and of a pointer.
@@ -161,6 +162,7 @@ PAGE_START_SIZE, POINTER_SIZE = 2, 8
 # have 64 bits.
 EXPORT_SYMBOL_FLAGS = 0x1f
 EXPORT_SYMBOL_FLAGS_KIND_MASK, EXPORT_SYMBOL_FLAGS_KIND_ABSOLUTE, KIND_UNKNOWN = 0x3, 0x2, 0x3
+EXPORT_SYMBOL_FLAGS_WEAK_DEFINITION = 0x4
 EXPORT_SYMBOL_FLAGS_REEXPORT, EXPORT_SYMBOL_FLAGS_STUB_AND_RESOLVER = 0x8, 0x10
 LEAST_SPECIAL_ORDINAL = 2 ** 64 + BIND_SPECIAL_DYLIB_WEAK_LOOKUP
 
@@ -243,7 +245,7 @@ SPECIAL_SLOTS = range(1, 0x1000)
 LEAST_VERSION = 0x20000
 FIELDS_SIZES = {0: 44, 0x20100: 48, 0x20200: 52, 0x20300: 64, 0x20400: 88, 0x20500: 96, 0x20600: 108}
 CS_SUPPORTSSCATTER, CS_SUPPORTSTEAMID, CS_SUPPORTSCODELIMIT64 = 0x20100, 0x20200, 0x20300
-CS_SUPPORTSRUNTIME, CS_SUPPORTSLINKAGE = 0x20500, 0x20600
+CS_SUPPORTSEXECSEG, CS_SUPPORTSRUNTIME, CS_SUPPORTSLINKAGE = 0x20400, 0x20500, 0x20600
 HASH_SIZES = {1: 20, 2: 32, 3: 20, 4: 48}
 HASHES = {
     1: ("sha1", hashlib.sha1),
@@ -253,6 +255,13 @@ HASHES = {
 }
 GREATEST_PAGE_SIZE = 31
 CS_CDHASH_LEN = 20
+# The magic numbers of the blobs in the slots that readers know: directories, requirements, entitlements in two forms,
+# launch constraints, and the wrapper of a CMS signature. And the slots that have a name, these and others.
+KNOWN_SLOTS = {
+    **dict.fromkeys(DIRECTORY_SLOTS, CSMAGIC_CODEDIRECTORY), 2: 0xfade0c01, 5: 0xfade7171, 7: 0xfade7172,
+    **dict.fromkeys(range(8, 12), 0xfade8181), 0x10000: 0xfade0b01,
+}
+NAMED_SLOTS = (*range(12), *range(0x1000, 0x1005), *range(0x10000, 0x10003))
 
 # The instructions that do nothing, by the cputype, with which linkers fill the gaps of code. One begins at a multiple of
 # its size.
@@ -438,10 +447,11 @@ class Image:
 
     @cached_property
     def segments(self):
-        """The segments, in command order, each with its sections."""
+        """The segments, in command order, each with its index and its sections."""
         segments = [command for command in self.listed if command.cmd == LC_SEGMENT_64]
-        for segment in segments:
-            places = [segment.place + 72 + 80 * k for k in range(segment.nsects)]
+        for k, segment in enumerate(segments):
+            segment.index = k
+            places = [segment.place + 72 + 80 * n for n in range(segment.nsects)]
             segment.sections = [read(self.data, place, "section_64") for place in places]
             for section in segment.sections:
                 section.segment = segment
@@ -1100,15 +1110,16 @@ def count_and_skip(opcode):
     return None
 
 def runs(image, table):
-    """Each opcode of a stream with a count: its place, count and skip, and the state before it but for the ordinal,
-    which is judged where it is set."""
-    start = dict(segment=None, cursor=0, symbol=None, is_new=False)
+    """Each opcode of a stream with a count: its place, count and skip, and the state before it."""
+    start = dict(segment=None, cursor=0, symbol=None, is_new=False, addend=0, library=0)
     state = dict(start)
     for opcode in decode(image, table)[0]:
         if opcode.name == "BIND_OPCODE_DONE":
             state = dict(start)
         elif ordinal_of(opcode) is not None:
-            state["is_new"] = True
+            state.update(library=ordinal_of(opcode), is_new=True)
+        elif opcode.name == "BIND_OPCODE_SET_ADDEND_SLEB":
+            state["addend"] = opcode.addend
         elif opcode.name.endswith("_SET_SEGMENT_AND_OFFSET_ULEB"):
             state.update(segment=opcode.imm, cursor=opcode.offset)
         elif opcode.name.endswith("_ADD_ADDR_ULEB") and "_DO_" not in opcode.name:
@@ -1398,16 +1409,17 @@ def last_before(starts, number_of):
     return at - 1 if at > 0 else None
 
 def read_node(image, table, place):
-    """The node that begins at a place: where its terminal part begins and ends, its children, as offsets in the table,
-    and where it ends."""
+    """The node that begins at a place: where its terminal part begins and ends, its labels, its children, as offsets in
+    the table, and where it ends."""
     size, start = operand(image.data, place, table.end, "number")
     # The count of the edges is the byte past the terminal part.
     count = start + size
     if count >= table.end:
         raise Malformed
-    node = SimpleNamespace(place=place, start=start, terminal_end=count, end=count + 1, children=[])
+    node = SimpleNamespace(place=place, start=start, terminal_end=count, end=count + 1, labels=[], children=[])
     for _ in range(image.data[count]):
-        _, node.end = operand(image.data, node.end, table.end, "name")
+        label, node.end = operand(image.data, node.end, table.end, "name")
+        node.labels.append(image.data[label:node.end - 1])
         child, node.end = operand(image.data, node.end, table.end, "number")
         node.children.append(child)
     return node
@@ -2110,6 +2122,245 @@ def entry_one(image):
                 or is_data(image, place)):
             yield command.place
 
+# What is bound, exported and named by symbols
+
+def string_at(image, place):
+    """The bytes from a place of the image up to the first zero byte."""
+    zero = image.data.find(0, place)
+    return image.data[place:zero if zero >= 0 else image.length]
+
+def binds(image):
+    """What the opcodes bind: of each the place of the opcode, the index of the segment, the offset in it, the name, the
+    addend, and the ordinal of the library, which is None in the weak stream."""
+    for table in streams(image, *BIND_STREAMS):
+        for run in runs(image, table):
+            for k in range(run.count):
+                yield SimpleNamespace(
+                    place=run.place, segment=run.segment, offset=(run.cursor + k * (8 + run.skip)) % 2 ** 64,
+                    name=string_at(image, run.symbol), addend=run.addend,
+                    library=None if table.stream == "weak" else run.library)
+
+def chain_binds(image):
+    """What the chains bind: of each the index of the segment, the offset in it, and the name."""
+    names = [string_at(image, one.name) for one in imports(image)]
+    for page in pages(image):
+        for pointer in chain_of(image, page):
+            if pointer.binds is not None:
+                yield SimpleNamespace(segment=page.segment.index, offset=pointer.place - page.segment.fileoff,
+                                      name=names[pointer.binds])
+
+def bind_once(image):
+    """The opcode binds a location which it or an earlier one binds to another name or addend, or from another library,
+    or a byte of another bound location."""
+    contents, libraries = {}, {}
+    for bind in sorted(binds(image), key=lambda bind: bind.place):
+        content = contents.setdefault((bind.segment, bind.offset), set())
+        content.add((bind.name, bind.addend))
+        library = libraries.setdefault((bind.segment, bind.offset), set())
+        if bind.library is not None:
+            library.add(bind.library)
+        is_shared = any((bind.segment, bind.offset + distance) in contents for distance in (*range(-7, 0), *range(1, 8)))
+        if len(content) > 1 or len(library) > 1 or is_shared:
+            yield bind.place
+
+def export_edge(image):
+    """A label of the node is empty, or another one begins with it."""
+    for node in walk(image)[0]:
+        # If any label begins with another one, so does the one that follows this in their order.
+        labels = sorted(node.labels)
+        if b"" in labels or any(map(bytes.startswith, labels[1:], labels)):
+            yield node.place
+
+def is_external(symbol):
+    """The symbol is not for a debugger, and other images see it."""
+    return symbol.n_type & N_STAB == 0 and symbol.n_type & N_EXT != 0
+
+def is_of_another(symbol):
+    """Another image defines an external symbol, by its type."""
+    return symbol.n_type & N_TYPE in (N_UNDF, N_PBUD)
+
+def symbol_string(image, offset):
+    """The name at an offset of the strings."""
+    return string_at(image, image.only(LC_SYMTAB).stroff + offset)
+
+def groups_of_type(symbol):
+    """Whether the symbol is local, defined and undefined, by its type."""
+    external, another = is_external(symbol), is_of_another(symbol)
+    return [not external, external and not another, external and another]
+
+def symbol_kind(image):
+    """The symbol is not in exactly the one group that its type says; or it has no name, but the first string is one."""
+    dysymtab = image.only(LC_DYSYMTAB)
+    groups = None if dysymtab is None else [
+        range(first, first + count) for first, count in (
+            (dysymtab.ilocalsym, dysymtab.nlocalsym), (dysymtab.iextdefsym, dysymtab.nextdefsym),
+            (dysymtab.iundefsym, dysymtab.nundefsym))]
+    shows_string = image.symbol_count > 0 and symbol_string(image, 0) not in (b"", b" ")
+    for k, symbol in enumerate(image.symbols):
+        is_misgrouped = groups is not None and [k in group for group in groups] != groups_of_type(symbol)
+        if is_misgrouped or symbol.n_strx == 0 and shows_string:
+            yield symbol.place
+
+def named_externals(image):
+    """The external symbols with a name, in order."""
+    return [symbol for symbol in image.symbols if is_external(symbol) and symbol.n_strx != 0]
+
+def symbol_total(image):
+    """The names up to and including this one, with their zero bytes, have more bytes than the image."""
+    total = 0
+    for symbol in named_externals(image):
+        total += len(symbol_string(image, symbol.n_strx)) + 1
+        if total > image.length:
+            yield symbol.place
+            return
+
+def look_up(root, nodes, name_of):
+    """The node with the export of a name, by the first edge that fits at each node, or None. The nodes of the trie are
+    by their places, and it begins at the root."""
+    place, at = root, 0
+    while True:
+        node = nodes[place]
+        if at == len(name_of) and node.terminal_end > node.start:
+            return node
+        fitting = [(label, child) for label, child in zip(node.labels, node.children) if name_of.startswith(label, at)]
+        if not fitting:
+            return None
+        label, child = fitting[0]
+        at, place = at + len(label), root + child
+
+def is_at_address(export):
+    """The export is at an address of the image, which a look-up gives. It is of the kind regular or thread-local."""
+    return (is_relative(export) and export.flags & EXPORT_SYMBOL_FLAGS_REEXPORT == 0
+            and export.flags & EXPORT_SYMBOL_FLAGS_STUB_AND_RESOLVER == 0)
+
+def says_as_export(image, symbol, export):
+    """The symbol is defined in the image, where the export is, and as weak as it."""
+    is_weak = symbol.n_desc & N_WEAK_DEF != 0
+    return (not is_of_another(symbol) and type_of(symbol) != N_INDR
+            and symbol.n_value == image.base + export.offsets[0]
+            and is_weak == (export.flags & EXPORT_SYMBOL_FLAGS_WEAK_DEFINITION != 0))
+
+def export_symbol(image):
+    """The symbol is defined, and an earlier one of the name says otherwise; or the export of the name does."""
+    meanings = {}
+    table, nodes = table_of(image, "exports"), {node.place: node for node in walk(image)[0]}
+    for symbol in named_externals(image):
+        own = symbol_string(image, symbol.n_strx)
+        if not is_of_another(symbol):
+            meaning = symbol.n_value, symbol.n_type & N_TYPE, symbol.n_desc & N_WEAK_DEF
+            if meanings.setdefault(own, meaning) != meaning:
+                yield symbol.place
+        node = look_up(table.start, nodes, own) if table else None
+        export = read_export(image, node) if node else None
+        if export and is_at_address(export) and not says_as_export(image, symbol, export):
+            yield symbol.place
+
+def indirect_pointers(image):
+    """The pointers of sections of pointers: of each the index of the segment, the offset in it, the place of the
+    indirect entry, and the entry. (After `indirect-range` there is an entry for each.)"""
+    for section in image.sections:
+        if section.flags & SECTION_TYPE in TYPES_WITH_INDIRECTS and section.flags & SECTION_TYPE != S_SYMBOL_STUBS:
+            start = section.addr - section.segment.vmaddr
+            for k in range(section.size // POINTER_SIZE):
+                place = image.only(LC_DYSYMTAB).indirectsymoff + 4 * (section.reserved1 + k)
+                yield SimpleNamespace(segment=section.segment.index, offset=start + k * POINTER_SIZE, place=place,
+                                      entry=int.from_bytes(image.data[place:place + 4], "little"))
+
+def indirect_name(image):
+    """The pointer is bound, and its entry is the index of a symbol that is not external, has no name or another one, or
+    is another name of a symbol."""
+    names = {}
+    for bind in [*binds(image), *chain_binds(image)]:
+        names.setdefault((bind.segment, bind.offset), set()).add(bind.name)
+    for pointer in indirect_pointers(image):
+        bound = names.get((pointer.segment, pointer.offset))
+        if bound and pointer.entry & (INDIRECT_SYMBOL_LOCAL | INDIRECT_SYMBOL_ABS) == 0:
+            symbol = image.symbols[pointer.entry]
+            has_own_name = is_external(symbol) and type_of(symbol) != N_INDR and symbol.n_strx != 0
+            if not has_own_name or bound != {symbol_string(image, symbol.n_strx)}:
+                yield pointer.place
+
+def libraries_of_names(image):
+    """The names that are bound, each with the ordinals of the libraries of its binds, but for those that are looked up
+    in all images by their weakness."""
+    named = {}
+    for bind in binds(image):
+        named.setdefault(bind.name, set()).add(bind.library)
+    for one in imports(image):
+        named.setdefault(string_at(image, one.name), set()).add(one.ordinal)
+    return {name_of: libraries - {None, BIND_SPECIAL_DYLIB_WEAK_LOOKUP} for name_of, libraries in named.items()}
+
+def library_of_symbol(symbol):
+    """The ordinal of the library that an undefined symbol says."""
+    ordinal = symbol.n_desc >> 8
+    return {DYNAMIC_LOOKUP_ORDINAL: BIND_SPECIAL_DYLIB_FLAT_LOOKUP,
+            EXECUTABLE_ORDINAL: BIND_SPECIAL_DYLIB_MAIN_EXECUTABLE}.get(ordinal, ordinal)
+
+def import_library(image):
+    """The image has two levels of names, the symbol is undefined, and a bind of its name is from another library."""
+    if image.header.flags & MH_TWOLEVEL == 0:
+        return
+    named = libraries_of_names(image)
+    for symbol in named_externals(image):
+        libraries = named.get(symbol_string(image, symbol.n_strx), set())
+        if is_of_another(symbol) and libraries - {library_of_symbol(symbol)}:
+            yield symbol.place
+
+def magic_of(image, blob):
+    return read(image.data, blob.start, "CS_GenericBlob", "big").magic
+
+def signature_slot(image):
+    """An earlier entry has the slot; or the slot is known, and the blob has not its magic number; or it is not, and the
+    blob has the one of a slot that is. Or the slot has no name, and is below an earlier one without a name."""
+    earlier, greatest = set(), 0
+    for blob in blobs(image):
+        number_of = magic_of(image, blob)
+        is_misfit = number_of != KNOWN_SLOTS.get(blob.slot, number_of)
+        is_hidden = blob.slot not in KNOWN_SLOTS and number_of in KNOWN_SLOTS.values()
+        is_below = blob.slot not in NAMED_SLOTS and blob.slot < greatest
+        if blob.slot in earlier or is_misfit or is_hidden or is_below:
+            yield blob.entry
+        earlier.add(blob.slot)
+        if blob.slot not in NAMED_SLOTS:
+            greatest = max(greatest, blob.slot)
+
+def text_in(image, blob, offset):
+    """The text at an offset of a blob, or None without an offset."""
+    return image.data[blob.start + offset:blob.end].split(b"\0")[0] if offset != 0 else None
+
+def team_offset(directory):
+    return directory.teamOffset if directory.version >= CS_SUPPORTSTEAMID else 0
+
+def identity_of(image, blob):
+    """What a directory says of a program."""
+    directory = read_directory(image, blob)
+    has_segment = directory.version >= CS_SUPPORTSEXECSEG
+    return (text_in(image, blob, directory.identOffset), text_in(image, blob, team_offset(directory)),
+            directory.flags, directory.platform,
+            (directory.execSegBase, directory.execSegLimit, directory.execSegFlags) if has_segment else (0, 0, 0),
+            directory.runtime if directory.version >= CS_SUPPORTSRUNTIME else 0)
+
+def fields_size(directory):
+    return FIELDS_SIZES[max(version for version in FIELDS_SIZES if version <= directory.version)]
+
+def is_unclear(directory):
+    """The directory has two limits, no size of pages, no identifier, or a text among its fields."""
+    return (limit_of(directory) != directory.codeLimit or directory.pageSize == 0
+            or directory.identOffset < fields_size(directory)
+            or 0 < team_offset(directory) < fields_size(directory))
+
+def directory_agree(image):
+    """The directory says something else than the first one, or an earlier one has its type of hashes, or it is unclear
+    by itself."""
+    found = directories(image)
+    earlier = set()
+    for blob in found:
+        directory = read_directory(image, blob)
+        if (identity_of(image, blob) != identity_of(image, found[0]) or directory.hashType in earlier
+                or is_unclear(directory)):
+            yield blob.entry
+        earlier.add(directory.hashType)
+
 # The sealed profile of docs/rules/sealed.md. Its rules may take for granted that all above are unbroken as well.
 
 def signature_missing(image):
@@ -2207,6 +2458,8 @@ UNAMBIGUOUS_RULES_OF_THE_FILE = [fat_count, fat_header, fat_page]
 UNAMBIGUOUS_RULES_OF_AN_IMAGE = [
     command_known, command_once, segment_name, segment_page, segment_protection, bytes_encrypted, number_shift,
     section_name, section_alone, entry_one,
+    bind_once, export_edge, symbol_kind, symbol_total, export_symbol, indirect_name, import_library,
+    signature_slot, directory_agree,
 ]
 SEALED_RULES_OF_AN_IMAGE = [
     signature_missing, signature_executable, directory_repeated, signature_slack, signature_hash,

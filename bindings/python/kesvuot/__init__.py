@@ -8,12 +8,18 @@
         print(refused.rule, hex(refused.place))
     else:
         for image in file.images:
+            print(image.arch)
             for segment in image.segments:
                 print(segment.name.tobytes(), len(segment.bytes))
 
-`kesvuot.verify(data, "strict")` judges by more rules: the profiles are "layout" (the default), "strict", "linked" and
-"sealed". `kesvuot.verify_file(path)` reads the file, too. `explain(data, refused)` says which structures, parts and
-numbers a refusal is about. `kesvuot.constants` has the numbers of <mach-o/loader.h> and its kin, such as LC_SEGMENT_64.
+`kesvuot.verify(data, "strict")` judges by more rules: the profiles are "layout" (the default), "strict", "linked",
+"unambiguous" and "sealed". `kesvuot.verify_file(path)` reads the file, too. `explain(data, refused)` says which
+structures, parts and numbers a refusal is about. `kesvuot.constants` has the numbers of <mach-o/loader.h> and its kin,
+such as LC_SEGMENT_64.
+
+The values and tables of an image are properties. A table is a Table of rows, found by their indices as in a list;
+exports and fixups are a Walk each. The values of a row are its fields, and properties of it decode its bits, such as
+`Symbol.kind`.
 
 `data` is bytes, a bytearray, an mmap, or any other object whose bytes are in one piece. Names and contents are
 read-only memoryviews of it. Nothing is copied, and `data` lives for as long as a view of it does. A view compares with
@@ -47,10 +53,11 @@ from ._files import (
     command_name, library_version, platform_name, verify, verify_file)
 from ._opcodes import Bind, OpcodeError, Rebase
 from ._rows import (
-    Blob, Build, CodeDirectory, Command, DataInCode, Export, Library, Relocation, Section, Segment, Symbol, Table)
+    Blob, Build, CodeDirectory, Command, DataInCode, Export, Library, Relocation, Section, Segment, Table, Walk)
+from ._symbols import Strings, Symbol, SymbolKind, SymbolLibrary
 
 __all__ = ["verify", "verify_file", "explain", "library_version", "arch_name", "arch_named", "command_name",
            "platform_name", "constants", "Refused", "Explanation", "Part", "File", "Slice", "Image", "Source",
-           "SourceKind", "Table", "Segment", "Section", "Library", "Build", "Command", "Symbol", "Relocation",
-           "DataInCode", "Blob", "CodeDirectory", "Export", "BoundedTable", "Symtab", "Dysymtab", "Rebase", "Bind",
-           "OpcodeError"]
+           "SourceKind", "Table", "Walk", "Segment", "Section", "Library", "Build", "Command", "Symbol", "SymbolKind",
+           "SymbolLibrary", "Strings", "Relocation", "DataInCode", "Blob", "CodeDirectory", "Export", "BoundedTable",
+           "Symtab", "Dysymtab", "Rebase", "Bind", "OpcodeError"]

@@ -10,7 +10,7 @@ from ._files import Refused
 from ._layout import plain
 from ._names import opcode_name
 from ._parts import FAT_ENTRIES, TABLES, Part, TableForm, image_parts, slices_of
-from ._structures import STRUCTURES, field_of, number_in, size_of, structure_of
+from ._structures import STRUCTURES, directory_size, field_of, number_in, size_of, structure_of
 from .constants import LC_SYMTAB
 
 # A longer name is cut. One of the file can have any length.
@@ -53,7 +53,9 @@ DIRECTORY_FIELDS = {
     **dict.fromkeys(("signature-directory", "signature-whole"),
                     "magic length version hashOffset identOffset nSpecialSlots nCodeSlots codeLimit hashSize hashType "
                     "pageSize"),
-    "signature-hash": "hashOffset nSpecialSlots nCodeSlots codeLimit hashSize hashType pageSize"}
+    "signature-hash": "hashOffset nSpecialSlots nCodeSlots codeLimit hashSize hashType pageSize",
+    "directory-agree": "flags identOffset codeLimit hashType platform pageSize teamOffset codeLimit64 execSegBase "
+                       "execSegLimit execSegFlags runtime"}
 GROUP_FIELDS = ("ilocalsym nlocalsym", "iextdefsym nextdefsym", "iundefsym nundefsym")
 # Those that a rule reads besides: of the structure at the place, and of that of the second part.
 MORE_FIELDS: Dict[str, Tuple[str, str]] = {
@@ -82,7 +84,12 @@ MORE_FIELDS: Dict[str, Tuple[str, str]] = {
     "segment-page": ("vmaddr vmsize fileoff filesize", ""), "segment-protection": ("vmsize maxprot initprot", ""),
     "bytes-encrypted": ("cryptid flags", ""), "number-shift": ("cmd vmsize", "cmd vmsize initprot"),
     "section-alone": ("flags", ""),
-    "entry-one": ("cmd entryoff", "filetype")}
+    "entry-one": ("cmd entryoff", "filetype"),
+    "symbol-kind": ("n_strx n_type", "ilocalsym nlocalsym iextdefsym nextdefsym iundefsym nundefsym"),
+    "symbol-total": ("n_strx n_type", ""),
+    "export-symbol": ("n_strx n_type n_desc n_value", "n_strx n_type n_desc n_value"),
+    "import-library": ("n_strx n_type n_desc", ""),
+    **dict.fromkeys(("signature-slot", "directory-agree"), ("type offset", ""))}
 
 
 class Spot(NamedTuple):
@@ -142,6 +149,8 @@ class Case:
 
     def name(self, wanted: FilePart) -> str:
         """What a part is called."""
+        if wanted.kind == "name" and self.rule == "symbol-kind":
+            return "the first string"
         if wanted.kind in PLAIN_NAMES:
             return PLAIN_NAMES[wanted.kind]
         if wanted.kind == "symbol":
@@ -244,7 +253,7 @@ class Case:
             return "CS_CodeDirectory", place
         if kind == "byte" and self.rule == "signature-blob":
             return "CS_SuperBlob", part.start
-        if kind == "symbol" or (kind == "name" and self.explanation.symbol is not None):
+        if kind == "symbol" or (kind == "name" and self.explanation.symbol is not None and place == self.place):
             return "nlist_64", place
         if kind in ("command", "segment", "segment-memory", "table", "group",
                     "name"):
@@ -279,7 +288,7 @@ class Case:
         if part.kind == "group":
             return GROUP_FIELDS[part.index or 0]
         if part.kind == "name":
-            return "name path n_strx"
+            return "name path n_strx stroff"
         if self.rule == "signature-missing":
             return "cmd dataoff datasize"
         if part.kind in ("signature-blob", "code-page", "code-hash"):
@@ -307,9 +316,12 @@ class Case:
     def fields(self, spot: Spot) -> Iterator[Tuple[str, int, int, int]]:
         """The fields of a structure: the name, the place in the file, the size, and the number of each."""
         data = self.data[spot.start:spot.start + size_of(spot.structure)]
+        size = len(data)
+        if spot.structure == "CS_CodeDirectory" and self.rule == "directory-agree":
+            size = min(size, directory_size(number_in(data, spot.structure, "version")))
         for name in spot.fields:
             field = field_of(spot.structure, name)
-            if field.start + field.width <= len(data):
+            if field.start + field.width <= size:
                 yield name, spot.start + field.start, field.width, number_in(data, spot.structure, name)
 
 

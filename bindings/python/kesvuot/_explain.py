@@ -169,7 +169,8 @@ def _rows(told: Told) -> Rows:
     """Where the place is, which parts are in conflict, and which numbers are compared."""
     it = told.case.explanation
     rows: Rows = [("offset", ", ".join([f"{told.case.place:#x}", *(name for name, _ in _holders(told.case))]))]
-    rows += [(name, _range(part)) for name, part in zip(told.case.names, (it.first, it.second)) if part]
+    second = None if it.second == it.first else it.second
+    rows += [(name, _range(part)) for name, part in zip(told.case.names, (it.first, second)) if part]
     return rows + [(name, f"{number:#x}") for name, number in told.story.numbers]
 
 

@@ -6,8 +6,8 @@ import ctypes
 import enum
 import operator
 import os
-from functools import cached_property, lru_cache
-from typing import Any, Dict, Iterator, NamedTuple, Optional, SupportsIndex, Tuple, Union
+from functools import cached_property, lru_cache, partial
+from typing import Any, Dict, NamedTuple, Optional, SupportsIndex, Tuple, Union
 from uuid import UUID
 
 from . import _exports, _library, _opcodes, _reading, _rows
@@ -15,11 +15,12 @@ from ._library import CHANGED, EXPORT, IMAGE, SPAN, TEXT, VERDICT, Bytes, Data, 
 from ._opcodes import Bind, Rebase
 from ._profiles import DEFAULT, PROFILES
 from ._rows import (
-    Blob, Build, Command, DataInCode, Export, Library, NamedReader, Reader, Relocation, Section, Segment, Symbol, Table,
+    Blob, Build, Command, DataInCode, Export, Library, NamedReader, Reader, Relocation, Section, Segment, Table, Walk,
     WalkedReader)
+from ._symbols import Strings, Symbol
 from .constants import (
     CPU_SUBTYPE_ARM64_ALL, CPU_SUBTYPE_ARM64E, CPU_SUBTYPE_X86_64_ALL, CPU_SUBTYPE_X86_64_H, CPU_TYPE_ARM64,
-    CPU_TYPE_X86_64, LC_LOAD_DYLINKER, LC_RPATH)
+    CPU_TYPE_X86_64, LC_LOAD_DYLINKER, LC_RPATH, MH_TWOLEVEL)
 
 # Room for the layout of most files. A longer one takes a second call.
 LAYOUT_ROOM = 1 << 14
@@ -124,8 +125,8 @@ class Slice:
     `index`: its index in the file, from 0 on
     `place`: where it begins in the file: 0 exactly if the file is not universal
     `bytes`: its bytes
-    `cputype`, `cpusubtype`: those of the image, or of the universal table if it is no Image; the second without the
-    capability byte"""
+    `cputype`, `cpusubtype`: of the image, or of the universal table if it is no Image; either way the second is
+    without the capability byte"""
 
     def __init__(self, data: Bytes, index: int, fields: Tuple[Any, ...]) -> None:
         self.index = index
@@ -158,8 +159,9 @@ class Image(Slice):
     `uuid`: the uuid.UUID of LC_UUID, or None without one
     `symtab`, `dysymtab`: a Symtab and a Dysymtab, or None without such a command
 
-    Each table is read when a row of it is first asked for. Symbols and indirect entries are found by their index. Any
-    other table is read in one walk over the load commands, and kept in the form of the library."""
+    Each table is a property, whose rows are found by their indices, as in a list. Symbols and indirect entries are read
+    when they are asked for. Any other table is read as a whole, and kept in the form of the library. `exports` and the
+    fixups are properties too, a Walk each, and `relocations` and `sections_of` take a row."""
 
     def __init__(self, data: Bytes, index: int, written: Any, fields: Tuple[Any, ...]) -> None:
         super().__init__(data, index, fields)
@@ -177,6 +179,7 @@ class Image(Slice):
         self.uuid = UUID(bytes=fields[32]) if has & _library.HAS_UUID else None
         self.symtab = Symtab(*fields[4:8]) if has & _library.HAS_SYMTAB else None
         self.dysymtab = Dysymtab(*fields[26:32], *fields[8:10]) if has & _library.HAS_DYSYMTAB else None
+        self._symbols = _rows.symbols_of(Strings(data, written, self.flags & MH_TWOLEVEL != 0))
 
     def _walked(self, kind: _rows.Kind, count: int) -> Table[Any]:
         return Table(WalkedReader(self._data, self._image, kind, count).read, range(count))
@@ -246,20 +249,14 @@ class Image(Slice):
     def symbols(self) -> Table[Symbol]:
         """The symbols of LC_SYMTAB, none without it."""
         count = self.symtab.nsyms if self.symtab else 0
-        return Table(Reader(self._data, self._image, _rows.SYMBOLS).read, range(count))
-
-    def name(self, symbol: Symbol) -> memoryview:
-        """The name of a symbol of this image, empty where `strx` is 0. The call searches for its end. In a hostile file
-        many symbols can share a long name: to look up all of them takes time in proportion to nsyms * strsize. To list
-        all in linear time, add up the lengths of the names, and stop when the sum is more than 4 * strsize."""
-        return self._span(load().kesvuot_symbol_name, symbol.strx)[1]
+        return Table(Reader(self._data, self._image, self._symbols).read, range(count))
 
     @cached_property
     def symbols_with_names(self) -> Table[Tuple[Symbol, memoryview]]:
-        """The symbols of LC_SYMTAB, each with its name as `name` gives it. The names are looked up in batches: a loop
-        over all takes less time than `name` for each. What `name` says of hostile files holds here too."""
+        """The symbols of LC_SYMTAB, each with its name. The names are looked up in batches: a loop over all takes less
+        time than `name` of each. What `Symbol.name` says of hostile files holds here too."""
         count, strings_size = (self.symtab.nsyms, self.symtab.strsize) if self.symtab else (0, 0)
-        return Table(NamedReader(self._data, self._image, strings_size).read, range(count))
+        return Table(NamedReader(self._data, self._image, self._symbols, strings_size).read, range(count))
 
     def _span(self, call: Any, key: int) -> Tuple[int, memoryview]:
         """The status of a call on the image, and the bytes of the span that it writes."""
@@ -273,13 +270,18 @@ class Image(Slice):
         be of another section than the address, or end before it: the format has no sizes of symbols. The first call
         sorts the symbols, and keeps 4 bytes for each."""
         number = operator.index(address)
-        symbol = ctypes.create_string_buffer(_rows.SYMBOLS.form.size)
+        symbol = ctypes.create_string_buffer(self._symbols.form.size)
         if number < 0:
             return None
         status = load().kesvuot_find_symbol(self._data.address, len(self._data), self._image, self._index,
                                             len(self._index), min(number, (1 << 64) - 1), symbol,
                                             ctypes.byref(ctypes.c_size_t()))
-        return _rows.symbol_of(self._data, symbol) if status == _library.OK else None
+        return self._symbol_of(symbol) if status == _library.OK else None
+
+    def _symbol_of(self, written: Any) -> Symbol:
+        """The symbol of a row that the library has written."""
+        found: Symbol = next(self._symbols.make(self._data, [self._symbols.form.unpack(written)]))
+        return found
 
     @cached_property
     def _index(self) -> Any:
@@ -297,10 +299,10 @@ class Image(Slice):
         need not be defined in the image. None if there is none. Each call reads all symbols: for many names, read
         `symbols` once."""
         wanted = _bytes_of(name)
-        symbol = ctypes.create_string_buffer(_rows.SYMBOLS.form.size)
+        symbol = ctypes.create_string_buffer(self._symbols.form.size)
         status = load().kesvuot_find_name(self._data.address, len(self._data), self._image, wanted.address, len(wanted),
                                           symbol, ctypes.byref(ctypes.c_uint64()))
-        return _rows.symbol_of(self._data, symbol) if status == _library.OK else None
+        return self._symbol_of(symbol) if status == _library.OK else None
 
     def find_export(self, name: Union[Data, str]) -> Optional[Export]:
         """What the image exports under this name, of bytes or of a text in UTF-8, as a dynamic loader looks it up in the
@@ -312,12 +314,13 @@ class Image(Slice):
             self._data.address, len(self._data), self._image, wanted.address, len(wanted), written)
         return _rows.export_of(self._data, written) if status == _library.OK else None
 
-    def exports(self) -> Iterator[Tuple[bytes, Export]]:
+    @property
+    def exports(self) -> Walk[Tuple[bytes, Export]]:
         """What the image exports, each with its name, by a walk over the export trie. In a file that the linked profile
         accepts these are all. In any other the walk ends before a node that does not end in the trie, or with which the
         nodes that were met have more bytes than the trie, and it leaves out what is no export. There the names can be
         together far longer than the trie: a program that keeps them adds up their sizes."""
-        return _exports.exports(self._data, self._image)
+        return Walk(partial(_exports.exports, self._data, self._image))
 
     @cached_property
     def local_symbols(self) -> Table[Symbol]:
@@ -350,27 +353,30 @@ class Image(Slice):
         numbers = section.reloff, section.nreloc
         return Table(Reader(self._data, self._image, _rows.RELOCATIONS, *numbers).read, range(section.nreloc))
 
-    def function_starts(self) -> Iterator[int]:
+    @cached_property
+    def function_starts(self) -> Table[int]:
         """The addresses of functions, before any slide, by the first LC_FUNCTION_STARTS. Each is below the next one.
         They end before a number 0 of its data, a number that does not end in it, and an address of 2^64 or more. There
         are none if the image has no base. In a file that the linked profile accepts each is the address of a byte of
         the file. In any other one can be in no segment."""
-        return _rows.batches(self._data, self._image, _rows.FUNCTION_STARTS)
+        return _rows.uncounted(self._data, self._image, _rows.FUNCTION_STARTS)
 
-    def data_in_code(self) -> Iterator[DataInCode]:
+    @cached_property
+    def data_in_code(self) -> Table[DataInCode]:
         """The data in the code, by the whole entries of the first LC_DATA_IN_CODE, which can be in any order, and
         overlap. In a file that the linked profile accepts the bytes of each are in one executable segment. In any other
         they can be of no code."""
-        return _rows.batches(self._data, self._image, _rows.DATA_IN_CODE)
+        return _rows.uncounted(self._data, self._image, _rows.DATA_IN_CODE)
 
-    def blobs(self) -> Iterator[Blob]:
+    @cached_property
+    def blobs(self) -> Table[Blob]:
         """The blobs of the code signature, by the first LC_CODE_SIGNATURE, in the order of its index. Each lies past
         the one before it. They end before the first of which this does not hold. There are none if the data is no
         superblob. In a file that the linked profile accepts these are all. The entitlements are the blobs of the slots
         5 (a property list) and 7 (DER), past their first 8 bytes:
 
-            next((blob.bytes[8:] for blob in image.blobs() if blob.slot == 5), None)"""
-        return _rows.batches(self._data, self._image, _rows.BLOBS)
+            next((blob.bytes[8:] for blob in image.blobs if blob.slot == 5), None)"""
+        return _rows.uncounted(self._data, self._image, _rows.BLOBS)
 
     def table(self, table: BoundedTable) -> Optional[memoryview]:
         """A table of the image, or None if no command bounds it. With several such commands it is a table of the
@@ -388,25 +394,29 @@ class Image(Slice):
         status, data = self._span(load().kesvuot_find_data, number)
         return data if status == _library.OK else None
 
-    def rebases(self) -> Iterator[Rebase]:
+    @property
+    def rebases(self) -> Walk[Rebase]:
         """The pointers to which a dynamic loader adds the slide: the slots of the rebase opcodes of LC_DYLD_INFO or
-        LC_DYLD_INFO_ONLY, in their order. Those of chained fixups are not among them. Each call follows the opcodes
-        again, as far as the iterator is asked. It raises OpcodeError at an opcode that cannot be followed: then
-        the linked profile refuses the file."""
-        return _opcodes.rebases(self._data, self)
+        LC_DYLD_INFO_ONLY, in their order. Those of chained fixups are not among them. Each loop follows the opcodes
+        again, as far as it goes. It raises OpcodeError at an opcode that cannot be followed: then the linked profile
+        refuses the file."""
+        return Walk(partial(_opcodes.rebases, self._data, self))
 
-    def binds(self) -> Iterator[Bind]:
+    @property
+    def binds(self) -> Walk[Bind]:
         """The same for the bind opcodes: the pointers where a loader stores the address of a symbol."""
-        return _opcodes.binds(self._data, self, _opcodes.BIND)
+        return Walk(partial(_opcodes.binds, self._data, self, _opcodes.BIND))
 
-    def weak_binds(self) -> Iterator[Bind]:
+    @property
+    def weak_binds(self) -> Walk[Bind]:
         """The same for the weak bind opcodes, whose symbols several images may define. A symbol that is named there but
         bound nowhere, such as a strong definition, is not among them."""
-        return _opcodes.binds(self._data, self, _opcodes.WEAK_BIND)
+        return Walk(partial(_opcodes.binds, self._data, self, _opcodes.WEAK_BIND))
 
-    def lazy_binds(self) -> Iterator[Bind]:
+    @property
+    def lazy_binds(self) -> Walk[Bind]:
         """The same for the lazy bind opcodes: the pointers that are bound when they are first called."""
-        return _opcodes.binds(self._data, self, _opcodes.LAZY_BIND)
+        return Walk(partial(_opcodes.binds, self._data, self, _opcodes.LAZY_BIND))
 
     def at(self, address: SupportsIndex) -> Source:
         """What is at an address. Each call rescans the load commands: for many addresses, look them up in
@@ -441,6 +451,11 @@ class File:
     def images(self) -> Tuple[Image, ...]:
         """The slices that are 64-bit images. There is at least one."""
         return tuple(part for part in self.slices if isinstance(part, Image))
+
+    @cached_property
+    def unread_slices(self) -> Tuple[Slice, ...]:
+        """The slices that are no images, in which nothing was judged."""
+        return tuple(part for part in self.slices if not isinstance(part, Image))
 
     def place(self, part: memoryview) -> int:
         """Where a part of this file, such as a name, begins in it. An empty part begins nowhere."""
@@ -488,9 +503,10 @@ def verify(data: Data, profile: str = DEFAULT) -> File:
     """Judges a file by the rules of a profile, after all rules of the profiles before it:
 
     "layout": where the parts that the headers describe lie (docs/rules/layout.md)
-    "strict": bytes that no header accounts for, or that two parts share (docs/rules/layout.md)
+    "strict": bytes that no header accounts for, or that two parts share (docs/rules/strict.md)
     "linked": fixups, exports, functions, data in code, the structure of the code signature, symbols, relocations,
     threads, and what all other commands hold (docs/rules/linked.md)
+    "unambiguous": whether readers that look in different ways see one program (docs/rules/unambiguous.md)
     "sealed": whether each image has a code signature, whose hashes are those of the bytes, but not who signed
     (docs/rules/sealed.md)
 

@@ -72,7 +72,7 @@ def signature_of(image: Image) -> Optional[Signature]:
 
 def _directories_of(image: Image) -> Iterator[Tuple[int, CodeDirectory]]:
     """The code directories that can be read, each with the slot of its blob, in the order of the index."""
-    for blob in image.blobs():
+    for blob in image.blobs:
         directory = blob.code_directory() if blob.slot in DIRECTORY_SLOTS else None
         if directory:
             yield blob.slot, directory

@@ -122,9 +122,14 @@ class Stream:
         self._cursor = 0
         self.kind = 0
 
+    @property
+    def place(self) -> int:
+        """Where the opcode that is followed begins."""
+        return self._place + self._opcode
+
     def error(self, reason: str) -> OpcodeError:
         """What to raise for the opcode that is followed."""
-        return OpcodeError(reason, self._place + self._opcode)
+        return OpcodeError(reason, self.place)
 
     # Operands
 

@@ -9,6 +9,7 @@ from typing import (
     Any, Callable, Iterable, Iterator, NamedTuple, Optional, Sequence, SupportsIndex, Tuple, TypeVar, Union, overload)
 
 from ._library import BLOB, CDHASH, CHANGED, CODE_DIRECTORY, CURSOR, EXPORT, NO_SECTION, OK, SPAN, Bytes, load
+from ._symbols import Strings, Symbol
 from .constants import CS_CDHASH_LEN, EXPORT_SYMBOL_FLAGS_REEXPORT, EXPORT_SYMBOL_FLAGS_STUB_AND_RESOLVER
 
 Row = TypeVar("Row")
@@ -58,6 +59,11 @@ class Segment(NamedTuple):
 
     def __repr__(self) -> str:
         return _text(self)
+
+    @property
+    def last_address(self) -> Optional[int]:
+        """Its last address, or None if it is not mapped."""
+        return self.vmaddr + self.vmsize - 1 if self.vmsize else None
 
 
 class Section(NamedTuple):
@@ -133,26 +139,6 @@ class Command(NamedTuple):
 
     def __repr__(self) -> str:
         return _text(self)
-
-
-class Symbol(NamedTuple):
-    """An nlist_64. `Image.name` gives its name.
-
-    `section` is the index in `Image.sections` of the section with the number `sect`, whatever the `type` is, or None if
-    there is none. The symbol is defined in that section only if its `type` is N_SECT and it is no debugging entry
-    (N_STAB): then this is always an index. Do not subtract 1 from `sect`: it is 0 (NO_SECT) if the symbol is in no
-    section, and may be past the last section, such as in a debugging entry.
-
-    `value`: any number; of a symbol that is defined in a section its address
-    `strx`: 0 if it has no name
-    `desc`, `type`: n_desc and n_type, any numbers"""
-
-    value: int
-    strx: int
-    desc: int
-    type: int
-    sect: int
-    section: Optional[int]
 
 
 class Relocation(NamedTuple):
@@ -320,13 +306,6 @@ def _builds(_data: Bytes, rows: Fields) -> Iterator[Build]:
     return map(Build._make, rows)
 
 
-def _symbols(_data: Bytes, rows: Fields) -> Iterator[Symbol]:
-    # There may be millions: nothing is called for a row but what makes its objects.
-    new, none = tuple.__new__, NO_SECTION
-    return (new(Symbol, (value, strx, desc, kind, sect, None if section == none else section))
-            for value, strx, section, desc, kind, sect in rows)
-
-
 def _numbers(_data: Bytes, rows: Fields) -> Iterator[int]:
     return (value for value, in rows)
 
@@ -349,17 +328,11 @@ SEGMENTS = Kind("kesvuot_read_segments", Struct("@4Q2Q8x3Q3I4x"), _segments)
 SECTIONS = Kind("kesvuot_read_sections", Struct("@6Q2Q7I?3x"), _sections)
 LIBRARIES = Kind("kesvuot_read_libraries", Struct("@2Q3I4x"), _libraries)
 BUILDS = Kind("kesvuot_read_builds", Struct("@4I"), _builds)
-SYMBOLS = Kind("kesvuot_read_symbols", Struct("@QIIHBB4x"), _symbols)
 INDIRECTS = Kind("kesvuot_read_indirects", Struct("@I"), _numbers)
 FUNCTION_STARTS = Kind("kesvuot_read_function_starts", Struct("@Q"), _numbers)
 DATA_IN_CODE = Kind("kesvuot_read_data_in_code", Struct("@2QI2H"), _data_in_code)
 BLOBS = Kind("kesvuot_read_blobs", BLOB, _blobs)
 RELOCATIONS = Kind("kesvuot_read_relocations", Struct("@2I?B?B?3x"), _relocations)
-
-
-def symbol_of(data: Bytes, written: Any) -> Symbol:
-    """The symbol of a row that the library has written."""
-    return next(_symbols(data, [SYMBOLS.form.unpack(written)]))
 
 
 def export_of(data: Bytes, written: Any) -> Export:
@@ -369,6 +342,17 @@ def export_of(data: Bytes, written: Any) -> Export:
         return Export(flags, None, None, ordinal, data.part(*name))
     has_resolver = flags & EXPORT_SYMBOL_FLAGS_STUB_AND_RESOLVER
     return Export(flags, address, resolver if has_resolver else None, None, None)
+
+
+def symbols_of(strings: Strings) -> Kind:
+    """The symbols of the image whose strings these are."""
+    def make(_data: Bytes, rows: Fields) -> Iterator[Symbol]:
+        # There may be millions: nothing is called for a row but what makes its objects.
+        new, none = tuple.__new__, NO_SECTION
+        return (new(Symbol, (value, strx, desc, kind, sect, None if section == none else section, strings))
+                for value, strx, section, desc, kind, sect in rows)
+
+    return Kind("kesvuot_read_symbols", Struct("@QIIHBB4x"), make)
 
 
 def commands_of(image: int) -> Kind:
@@ -411,8 +395,8 @@ class Reader:
 class NamedReader(Reader):
     """Reads symbols with their names, of an image whose strings have this many bytes."""
 
-    def __init__(self, data: Bytes, image: Any, strings_size: int) -> None:
-        super().__init__(data, image, SYMBOLS)
+    def __init__(self, data: Bytes, image: Any, kind: Kind, strings_size: int) -> None:
+        super().__init__(data, image, kind)
         self._most = max(MOST_BYTES // max(strings_size, 1), 1)
 
     def read(self, first: int, count: int) -> Iterator[Tuple[Symbol, memoryview]]:
@@ -432,16 +416,6 @@ class NamedReader(Reader):
         load().kesvuot_read_names(self._data.address, len(self._data), self._image,
                                   ctypes.byref(ctypes.c_char.from_buffer(rows)), count, spans, count)
         return spans
-
-
-def batches(data: Bytes, image: Any, kind: Kind) -> Iterator[Any]:
-    """The rows of a table whose length nothing says, in batches, as they are asked for."""
-    size = kind.form.size
-    rows, cursor = ctypes.create_string_buffer(BATCH * size), ctypes.create_string_buffer(CURSOR.size)
-    written = BATCH
-    while written == BATCH:
-        written = getattr(load(), kind.call)(data.address, len(data), image, cursor, rows, BATCH)
-        yield from kind.make(data, kind.form.iter_unpack(rows.raw[:written * size]))
 
 
 class WalkedReader(Reader):
@@ -500,3 +474,32 @@ class Table(Sequence[Row]):
             some = self._indices[first:first + size]
             rows = self._read(min(some[0], some[-1]), len(some))
             yield rows if step == 1 else reversed(list(rows))
+
+
+def uncounted(data: Bytes, image: Any, kind: Kind) -> Table[Any]:
+    """A table whose length nothing says. All rows are read at once, and kept as the library writes them."""
+    size = kind.form.size
+    rows, cursor = ctypes.create_string_buffer(BATCH * size), ctypes.create_string_buffer(CURSOR.size)
+    written, kept = BATCH, bytearray()
+    while written == BATCH:
+        written = getattr(load(), kind.call)(data.address, len(data), image, cursor, rows, BATCH)
+        kept += memoryview(rows).cast("B")[:written * size]
+    view = memoryview(kept).toreadonly()
+
+    def read(first: int, count: int) -> Iterator[Any]:
+        return kind.make(data, kind.form.iter_unpack(view[first * size:(first + count) * size]))
+
+    return Table(read, range(len(kept) // size))
+
+
+class Walk(Iterable[Row]):
+    """What a walk over a trie or over opcodes meets. Each loop over it walks again, and keeps nothing."""
+
+    def __init__(self, walk: Callable[[], Iterator[Row]]) -> None:
+        self._walk = walk
+
+    def __repr__(self) -> str:
+        return "<kesvuot.Walk>"
+
+    def __iter__(self) -> Iterator[Row]:
+        return self._walk()

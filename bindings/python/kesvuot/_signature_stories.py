@@ -7,13 +7,11 @@ from typing import Any, Callable, Dict, Iterator, NamedTuple, Tuple
 
 from ._explanation import Part as FilePart
 from ._names import HASH_TYPES, count_text
-from ._structures import number_in
+from ._structures import DIRECTORY_SIZES, directory_size, number_in
 from ._teller import Story, Teller
 
 SUPERBLOB_SIZE, ENTRY_SIZE, DIRECTORY_SIZE = 12, 8, 44
 CSMAGIC_EMBEDDED_SIGNATURE, CSMAGIC_CODEDIRECTORY = 0xFADE_0CC0, 0xFADE_0C02
-# The bytes of the fields of a code directory, from which version on.
-FIELDS_SIZES = {0x20000: 44, 0x20100: 48, 0x20200: 52, 0x20300: 64, 0x20400: 88, 0x20500: 96, 0x20600: 108}
 # The bytes of a hash, by its type.
 HASH_SIZES = {1: 20, 2: 32, 3: 20, 4: 48}
 MOST_PAGE_SIZE = 31
@@ -104,9 +102,9 @@ def _faults(it: Teller, found: _Directory) -> Iterator[Fault]:
            f"{it.first} begins with the magic number {value:#x}, and a code directory with {it.limit:#x}.", "magic",
            "CSMAGIC_CODEDIRECTORY")
     yield (size < DIRECTORY_SIZE, f"{has}, and a code directory at least {it.limit}.", "length", "least length")
-    yield (version < min(FIELDS_SIZES), f"{it.first} is of version {version:#x}, and the least one is {it.limit:#x}.",
+    yield (version < min(DIRECTORY_SIZES), f"{it.first} is of version {version:#x}, and the least one is {it.limit:#x}.",
            "version", "least version")
-    fields = max((bytes_of for least, bytes_of in FIELDS_SIZES.items() if least <= version), default=0)
+    fields = directory_size(version)
     yield (size < fields, f"{has}, and the fields of version {version:#x} have {it.limit}.", "length", "size of the fields")
     yield (version >= SUPPORTS_SCATTER and found["scatterOffset"] != 0,
            f"{it.first} is for scattered pages, by its scatterOffset {value:#x}.", "scatterOffset", "")

@@ -5,6 +5,7 @@ from __future__ import annotations
 from typing import Callable, Collection, Dict, NamedTuple, Optional
 
 from . import _names
+from ._bind_stories import bind_once, import_library, indirect_name
 from ._case import Case
 from ._command_stories import command_content, thread
 from ._explanation import explain
@@ -12,8 +13,9 @@ from ._files import Refused
 from ._names import count_text, protection_text
 from ._parts import arch_name
 from ._reader_stories import (
-    bytes_encrypted, command_known, command_once, entry_one, fat_count, fat_header, fat_page, number_shift, section_alone,
-    section_name, segment_name, segment_page, segment_protection)
+    bytes_encrypted, command_known, command_once, directory_agree, entry_one, export_edge, export_symbol, fat_count,
+    fat_header, fat_page, number_shift, section_alone, section_name, segment_name, segment_page, segment_protection,
+    signature_slot, symbol_kind, symbol_total)
 from ._reading import Contents
 from ._signature_stories import (
     directory_repeated, signature_blob, signature_directory, signature_hash, signature_missing, signature_slack,
@@ -640,7 +642,10 @@ STORIES: Dict[str, Callable[[Teller], Story]] = {
     "fat-count": fat_count, "fat-header": fat_header, "fat-page": fat_page, "command-known": command_known,
     "command-once": command_once, "segment-name": segment_name, "segment-page": segment_page,
     "segment-protection": segment_protection, "bytes-encrypted": bytes_encrypted, "number-shift": number_shift,
-    "section-name": section_name, "section-alone": section_alone, "entry-one": entry_one}
+    "section-name": section_name, "section-alone": section_alone, "entry-one": entry_one,
+    "bind-once": bind_once, "export-edge": export_edge, "symbol-kind": symbol_kind, "symbol-total": symbol_total,
+    "export-symbol": export_symbol, "indirect-name": indirect_name, "import-library": import_library,
+    "signature-slot": signature_slot, "directory-agree": directory_agree}
 
 
 class Told(NamedTuple):

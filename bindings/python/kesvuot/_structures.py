@@ -72,6 +72,9 @@ STRUCTURES: Dict[str, Tuple[Field, ...]] = {name: _fields(words) for name, words
 BIG_ENDIAN = frozenset(("fat_header", "fat_arch", "fat_arch_64", "CS_SuperBlob", "CS_BlobIndex", "CS_GenericBlob",
                         "CS_CodeDirectory"))
 
+# The bytes of the fields of a CS_CodeDirectory, from which version on.
+DIRECTORY_SIZES = {0x20000: 44, 0x20100: 48, 0x20200: 52, 0x20300: 64, 0x20400: 88, 0x20500: 96, 0x20600: 108}
+
 # The structure of each command that docs/rules/layout.md lists, and of those others that have data.
 LISTED: Dict[int, str] = {
     # registry: listed
@@ -96,6 +99,11 @@ UNLISTED: Dict[int, str] = {
 def size_of(structure: str) -> int:
     last = STRUCTURES[structure][-1]
     return last.start + last.width
+
+
+def directory_size(version: int) -> int:
+    """The bytes of the fields that a CS_CodeDirectory of a version has."""
+    return max((size for least, size in DIRECTORY_SIZES.items() if least <= version), default=0)
 
 
 def structure_of(cmd: int, size: int) -> str:

@@ -80,6 +80,18 @@ MH_EXECUTE = 2
 MH_DYLIB = 6
 MH_BUNDLE = 8
 
+# The attributes in the flags of a section. (mach-o/loader.h)
+S_ATTR_PURE_INSTRUCTIONS = 0x80000000
+S_ATTR_NO_TOC = 0x40000000
+S_ATTR_STRIP_STATIC_SYMS = 0x20000000
+S_ATTR_NO_DEAD_STRIP = 0x10000000
+S_ATTR_LIVE_SUPPORT = 0x8000000
+S_ATTR_SELF_MODIFYING_CODE = 0x4000000
+S_ATTR_DEBUG = 0x2000000
+S_ATTR_SOME_INSTRUCTIONS = 0x400
+S_ATTR_EXT_RELOC = 0x200
+S_ATTR_LOC_RELOC = 0x100
+
 # The type in the flags of a section, and the types of zero-fill sections. (mach-o/loader.h)
 SECTION_TYPE = 0xff
 S_ZEROFILL = 0x1
@@ -96,9 +108,45 @@ S_THREAD_LOCAL_VARIABLE_POINTERS = 0x14
 # The type of a section of offsets of initializers. (mach-o/loader.h)
 S_INIT_FUNC_OFFSETS = 0x16
 
+# The other types of sections. (mach-o/loader.h)
+S_REGULAR = 0x0
+S_CSTRING_LITERALS = 0x2
+S_4BYTE_LITERALS = 0x3
+S_8BYTE_LITERALS = 0x4
+S_LITERAL_POINTERS = 0x5
+S_MOD_INIT_FUNC_POINTERS = 0x9
+S_MOD_TERM_FUNC_POINTERS = 0xa
+S_COALESCED = 0xb
+S_INTERPOSING = 0xd
+S_16BYTE_LITERALS = 0xe
+S_DTRACE_DOF = 0xf
+S_THREAD_LOCAL_REGULAR = 0x11
+S_THREAD_LOCAL_VARIABLES = 0x13
+S_THREAD_LOCAL_INIT_FUNCTION_POINTERS = 0x15
+
 # The marks of an indirect entry. (mach-o/loader.h)
 INDIRECT_SYMBOL_LOCAL = 0x80000000
 INDIRECT_SYMBOL_ABS = 0x40000000
+
+# The flags of an image. (mach-o/loader.h)
+MH_NOUNDEFS = 0x1
+MH_DYLDLINK = 0x4
+MH_BINDATLOAD = 0x8
+MH_PREBOUND = 0x10
+MH_TWOLEVEL = 0x80
+MH_FORCE_FLAT = 0x100
+MH_SUBSECTIONS_VIA_SYMBOLS = 0x2000
+MH_WEAK_DEFINES = 0x8000
+MH_BINDS_TO_WEAK = 0x10000
+MH_ALLOW_STACK_EXECUTION = 0x20000
+MH_NO_REEXPORTED_DYLIBS = 0x100000
+MH_PIE = 0x200000
+MH_DEAD_STRIPPABLE_DYLIB = 0x400000
+MH_HAS_TLV_DESCRIPTORS = 0x800000
+MH_NO_HEAP_EXECUTION = 0x1000000
+MH_APP_EXTENSION_SAFE = 0x2000000
+MH_SIM_SUPPORT = 0x8000000
+MH_DYLIB_IN_CACHE = 0x80000000
 
 # The flags of an export: a mask, its values, and bits. (mach-o/loader.h)
 EXPORT_SYMBOL_FLAGS_KIND_MASK = 0x3
@@ -118,6 +166,7 @@ DICE_KIND_JUMP_TABLE32 = 4
 DICE_KIND_ABS_JUMP_TABLE32 = 5
 
 # The processors of the 64-bit architectures. (mach/machine.h)
+CPU_ARCH_ABI64 = 0x1000000
 CPU_TYPE_X86_64 = 0x1000007
 CPU_TYPE_ARM64 = 0x100000c
 CPU_SUBTYPE_MASK = 0xff000000
@@ -126,10 +175,31 @@ CPU_SUBTYPE_X86_64_H = 8
 CPU_SUBTYPE_ARM64_ALL = 0
 CPU_SUBTYPE_ARM64E = 2
 
-# The type of a symbol: two masks, and the value of the second one of a section's symbol. (mach-o/nlist.h)
+# The type of a symbol: masks, two bits, and the values of `N_TYPE`. (mach-o/nlist.h)
 N_STAB = 0xe0
+N_PEXT = 0x10
 N_TYPE = 0xe
+N_EXT = 0x1
+N_UNDF = 0x0
+N_ABS = 0x2
+N_INDR = 0xa
+N_PBUD = 0xc
 N_SECT = 0xe
+
+# The description of a symbol: bits of `n_desc`. Its upper 8 bits are the ordinal of a library, if the symbol is undefined. (mach-o/nlist.h)
+N_ARM_THUMB_DEF = 0x8
+REFERENCED_DYNAMICALLY = 0x10
+N_NO_DEAD_STRIP = 0x20
+N_WEAK_REF = 0x40
+N_WEAK_DEF = 0x80
+N_SYMBOL_RESOLVER = 0x100
+N_ALT_ENTRY = 0x200
+N_COLD_FUNC = 0x400
+
+# The ordinals of libraries that are no index: of the image itself, of all images, and of the program. (mach-o/nlist.h)
+SELF_LIBRARY_ORDINAL = 0x0
+DYNAMIC_LOOKUP_ORDINAL = 0xfe
+EXECUTABLE_ORDINAL = 0xff
 
 # The bits of a protection. (mach/vm_prot.h)
 VM_PROT_READ = 1
@@ -139,6 +209,13 @@ VM_PROT_EXECUTE = 4
 # Code signatures: slots of code directories, and types of hashes. (kern/cs_blobs.h)
 CSSLOT_CODEDIRECTORY = 0
 CSSLOT_ALTERNATE_CODEDIRECTORIES = 0x1000
+CSSLOT_REQUIREMENTS = 2
+CSSLOT_ENTITLEMENTS = 5
+CSSLOT_DER_ENTITLEMENTS = 7
+CSSLOT_LAUNCH_CONSTRAINT_SELF = 8
+CSSLOT_LIBRARY_CONSTRAINT = 11
+CSSLOT_SIGNATURESLOT = 0x10000
+CSSLOT_TICKETSLOT = 0x10002
 CS_HASHTYPE_SHA1 = 1
 CS_HASHTYPE_SHA256 = 2
 CS_HASHTYPE_SHA256_TRUNCATED = 3

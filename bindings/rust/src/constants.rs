@@ -82,6 +82,18 @@ pub const MH_EXECUTE: u32 = 2;
 pub const MH_DYLIB: u32 = 6;
 pub const MH_BUNDLE: u32 = 8;
 
+// The attributes in the flags of a section. (mach-o/loader.h)
+pub const S_ATTR_PURE_INSTRUCTIONS: u32 = 0x8000_0000;
+pub const S_ATTR_NO_TOC: u32 = 0x4000_0000;
+pub const S_ATTR_STRIP_STATIC_SYMS: u32 = 0x2000_0000;
+pub const S_ATTR_NO_DEAD_STRIP: u32 = 0x1000_0000;
+pub const S_ATTR_LIVE_SUPPORT: u32 = 0x800_0000;
+pub const S_ATTR_SELF_MODIFYING_CODE: u32 = 0x400_0000;
+pub const S_ATTR_DEBUG: u64 = 0x200_0000;
+pub const S_ATTR_SOME_INSTRUCTIONS: u32 = 0x400;
+pub const S_ATTR_EXT_RELOC: u32 = 0x200;
+pub const S_ATTR_LOC_RELOC: u32 = 0x100;
+
 // The type in the flags of a section, and the types of zero-fill sections. (mach-o/loader.h)
 pub const SECTION_TYPE: u32 = 0xff;
 pub const S_ZEROFILL: u32 = 0x1;
@@ -98,9 +110,45 @@ pub const S_THREAD_LOCAL_VARIABLE_POINTERS: u32 = 0x14;
 // The type of a section of offsets of initializers. (mach-o/loader.h)
 pub const S_INIT_FUNC_OFFSETS: u32 = 0x16;
 
+// The other types of sections. (mach-o/loader.h)
+pub const S_REGULAR: u32 = 0x0;
+pub const S_CSTRING_LITERALS: u32 = 0x2;
+pub const S_4BYTE_LITERALS: u32 = 0x3;
+pub const S_8BYTE_LITERALS: u32 = 0x4;
+pub const S_LITERAL_POINTERS: u32 = 0x5;
+pub const S_MOD_INIT_FUNC_POINTERS: u32 = 0x9;
+pub const S_MOD_TERM_FUNC_POINTERS: u32 = 0xa;
+pub const S_COALESCED: u32 = 0xb;
+pub const S_INTERPOSING: u32 = 0xd;
+pub const S_16BYTE_LITERALS: u32 = 0xe;
+pub const S_DTRACE_DOF: u32 = 0xf;
+pub const S_THREAD_LOCAL_REGULAR: u32 = 0x11;
+pub const S_THREAD_LOCAL_VARIABLES: u32 = 0x13;
+pub const S_THREAD_LOCAL_INIT_FUNCTION_POINTERS: u32 = 0x15;
+
 // The marks of an indirect entry. (mach-o/loader.h)
 pub const INDIRECT_SYMBOL_LOCAL: u32 = 0x8000_0000;
 pub const INDIRECT_SYMBOL_ABS: u32 = 0x4000_0000;
+
+// The flags of an image. (mach-o/loader.h)
+pub const MH_NOUNDEFS: u32 = 0x1;
+pub const MH_DYLDLINK: u32 = 0x4;
+pub const MH_BINDATLOAD: u32 = 0x8;
+pub const MH_PREBOUND: u32 = 0x10;
+pub const MH_TWOLEVEL: u32 = 0x80;
+pub const MH_FORCE_FLAT: u32 = 0x100;
+pub const MH_SUBSECTIONS_VIA_SYMBOLS: u32 = 0x2000;
+pub const MH_WEAK_DEFINES: u32 = 0x8000;
+pub const MH_BINDS_TO_WEAK: u32 = 0x1_0000;
+pub const MH_ALLOW_STACK_EXECUTION: u32 = 0x2_0000;
+pub const MH_NO_REEXPORTED_DYLIBS: u32 = 0x10_0000;
+pub const MH_PIE: u32 = 0x20_0000;
+pub const MH_DEAD_STRIPPABLE_DYLIB: u32 = 0x40_0000;
+pub const MH_HAS_TLV_DESCRIPTORS: u32 = 0x80_0000;
+pub const MH_NO_HEAP_EXECUTION: u32 = 0x100_0000;
+pub const MH_APP_EXTENSION_SAFE: u32 = 0x200_0000;
+pub const MH_SIM_SUPPORT: u32 = 0x800_0000;
+pub const MH_DYLIB_IN_CACHE: u32 = 0x8000_0000;
 
 // The flags of an export: a mask, its values, and bits. (mach-o/loader.h)
 pub const EXPORT_SYMBOL_FLAGS_KIND_MASK: u64 = 0x3;
@@ -120,6 +168,7 @@ pub const DICE_KIND_JUMP_TABLE32: u16 = 4;
 pub const DICE_KIND_ABS_JUMP_TABLE32: u16 = 5;
 
 // The processors of the 64-bit architectures. (mach/machine.h)
+pub const CPU_ARCH_ABI64: u32 = 0x100_0000;
 pub const CPU_TYPE_X86_64: u32 = 0x100_0007;
 pub const CPU_TYPE_ARM64: u32 = 0x100_000c;
 pub const CPU_SUBTYPE_MASK: u32 = 0xff00_0000;
@@ -128,10 +177,31 @@ pub const CPU_SUBTYPE_X86_64_H: u32 = 8;
 pub const CPU_SUBTYPE_ARM64_ALL: u32 = 0;
 pub const CPU_SUBTYPE_ARM64E: u32 = 2;
 
-// The type of a symbol: two masks, and the value of the second one of a section's symbol. (mach-o/nlist.h)
+// The type of a symbol: masks, two bits, and the values of `N_TYPE`. (mach-o/nlist.h)
 pub const N_STAB: u8 = 0xe0;
+pub const N_PEXT: u8 = 0x10;
 pub const N_TYPE: u8 = 0xe;
+pub const N_EXT: u8 = 0x1;
+pub const N_UNDF: u8 = 0x0;
+pub const N_ABS: u8 = 0x2;
+pub const N_INDR: u8 = 0xa;
+pub const N_PBUD: u8 = 0xc;
 pub const N_SECT: u8 = 0xe;
+
+// The description of a symbol: bits of `n_desc`. Its upper 8 bits are the ordinal of a library, if the symbol is undefined. (mach-o/nlist.h)
+pub const N_ARM_THUMB_DEF: u16 = 0x8;
+pub const REFERENCED_DYNAMICALLY: u16 = 0x10;
+pub const N_NO_DEAD_STRIP: u16 = 0x20;
+pub const N_WEAK_REF: u16 = 0x40;
+pub const N_WEAK_DEF: u16 = 0x80;
+pub const N_SYMBOL_RESOLVER: u16 = 0x100;
+pub const N_ALT_ENTRY: u16 = 0x200;
+pub const N_COLD_FUNC: u16 = 0x400;
+
+// The ordinals of libraries that are no index: of the image itself, of all images, and of the program. (mach-o/nlist.h)
+pub const SELF_LIBRARY_ORDINAL: u16 = 0x0;
+pub const DYNAMIC_LOOKUP_ORDINAL: u16 = 0xfe;
+pub const EXECUTABLE_ORDINAL: u16 = 0xff;
 
 // The bits of a protection. (mach/vm_prot.h)
 pub const VM_PROT_READ: u32 = 1;
@@ -141,6 +211,13 @@ pub const VM_PROT_EXECUTE: u32 = 4;
 // Code signatures: slots of code directories, and types of hashes. (kern/cs_blobs.h)
 pub const CSSLOT_CODEDIRECTORY: u32 = 0;
 pub const CSSLOT_ALTERNATE_CODEDIRECTORIES: u32 = 0x1000;
+pub const CSSLOT_REQUIREMENTS: u32 = 2;
+pub const CSSLOT_ENTITLEMENTS: u32 = 5;
+pub const CSSLOT_DER_ENTITLEMENTS: u32 = 7;
+pub const CSSLOT_LAUNCH_CONSTRAINT_SELF: u32 = 8;
+pub const CSSLOT_LIBRARY_CONSTRAINT: u32 = 11;
+pub const CSSLOT_SIGNATURESLOT: u32 = 0x1_0000;
+pub const CSSLOT_TICKETSLOT: u32 = 0x1_0002;
 pub const CS_HASHTYPE_SHA1: u8 = 1;
 pub const CS_HASHTYPE_SHA256: u8 = 2;
 pub const CS_HASHTYPE_SHA256_TRUNCATED: u8 = 3;

@@ -35,8 +35,9 @@ pub enum Profile {
     /// of `loader.h` hold. `docs/rules/linked.md` explains the rules.
     Linked = 3,
     /// Readers that choose slices, segments, sections, load commands and entry points in different ways choose the same
-    /// ones, and a kernel that maps whole pages shows the bytes that the headers describe. The profile does not speak
-    /// of names of symbols, exports, binds and signatures. `docs/rules/unambiguous.md` explains the rules.
+    /// ones, and a kernel that maps whole pages shows the bytes that the headers describe. They find one meaning of a
+    /// name, one bind of a location, one library of a symbol, and one identity in a signature.
+    /// `docs/rules/unambiguous.md` explains the rules.
     Unambiguous = 4,
     /// Each image has a code signature; each code directory has the hashes of all bytes before the signature and of the
     /// blobs in special slots; no byte of the signature can be executed; and each nonzero byte from the signature on is

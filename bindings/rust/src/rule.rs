@@ -244,6 +244,26 @@ rules! {
     /// Unambiguous: a second command says where the program begins, or the image is not a program, or readers find
     /// another byte there, or data.
     EntryOne = 98,
+    /// Unambiguous: two binds of one location differ, or binds of two locations share bytes.
+    BindOnce = 99,
+    /// Unambiguous: a label of the export trie is empty, or another label of its node begins with it.
+    ExportEdge = 100,
+    /// Unambiguous: the groups of the symbol table say another kind of a symbol than its type, or a symbol without a
+    /// name shows the first string.
+    SymbolKind = 101,
+    /// Unambiguous: the names of the external symbols have more bytes than the image.
+    SymbolTotal = 102,
+    /// Unambiguous: a symbol says something else of a name than an earlier symbol, or than the export trie.
+    ExportSymbol = 103,
+    /// Unambiguous: a bound pointer has an indirect entry with another name than its bind.
+    IndirectName = 104,
+    /// Unambiguous: a bind takes the name of an undefined symbol from another library than the symbol says.
+    ImportLibrary = 105,
+    /// Unambiguous: a blob of the code signature is in the slot of another one, or its magic number is not the one of
+    /// its slot.
+    SignatureSlot = 106,
+    /// Unambiguous: a code directory says another identity than the first one, or readers find two things in it.
+    DirectoryAgree = 107,
     /// Sealed: an image has no code signature with a code directory.
     SignatureMissing = 78,
     /// Sealed: a byte of the code signature lies in memory that may be executed.

@@ -1,14 +1,20 @@
 -- The export trie of an image, and what is found in it.
 use Rattle.std.proofs.Common.{◌≡◌, ◌∙◌, ℕ, ◌+◌, ◌≤◌, List, length, Option, Some, None, inl, inr, refl, sym, ap, subst}
 use Rattle.std.specs.Prelude.{nat_le, IfSome}
-use Rattle.std.specs.Option.{option_and_then}
+use Rattle.std.specs.Option.{option_and_then, option_map, unwrap_or}
+use Rattle.macho_fields.specs.Image.{commands_of}
+use Rattle.macho_fields.specs.Segment.{base_of}
 use Rattle.std.proofs.lemmas.Bool.{leb-true, cases_Bool}
 use Rattle.macho_fields.specs.Layers.{NothingBreaks}
 use Rattle.macho_fields.specs.Rules.{BreaksImage}
 use Rattle.macho_spans.specs.Span.{end_of}
 use Rattle.macho_spans.specs.declared.span.Span.{Span}
 use Rattle.macho_exports.specs.Exports.{export_table}
-use Rattle.macho_c.specs.Exports.{exported, no_export, FindsExport}
+use Rattle.macho_alike.specs.ExportModels.{HasOneExportOfName, IsExportOf}
+use Rattle.macho_exports.specs.ExportTrie.{find_export, find_terminal, export_in}
+use Rattle.macho_exports.specs.declared.export_trie.Export.{Export}
+use Rattle.macho_fields.specs.Field.{part}
+use Rattle.macho_c.specs.Exports.{exported, export_row, no_export, FindsAlike, FindsExport}
 use Rattle.macho_c.specs.ExportTrie.{if_inside}
 use Rattle.macho_c.specs.Status.{Answers}
 use Rattle.macho_rows.specs.Image.{ShowsUnbroken, image_in}
@@ -48,3 +54,17 @@ finds file row shows name status export found inside is answer = (
   subst (λ (base : ℕ). Answers no_export status export (exported base row.slice.offset (image_in file row) (export_table (image_in file row)) name)) shows.0.parts.base
       (subst (Answers no_export status export) (is (unbroken file row shows)) answer),
 )
+
+-- what any reader finds is what the look-up finds
+pub finds_alike : (image : List ℕ) (place : ℕ) (name : List ℕ) (status : ℕ) (export : KesvuotExport) → HasOneExportOfName image → FindsExport image place name status export
+    → FindsAlike image place name status export
+finds_alike image place name status export one found table terminal is reads =
+    let trie = part table.start table.len image in
+    let looked_up : find_terminal trie name ≡ Some terminal = elim reads [ inl listed ↦ ((one table is).same name terminal).0 listed | inr same ↦ same ] in
+    let base = unwrap_or (base_of image (commands_of image)) 0 in
+    let at_table = subst (λ (o : Option Span). Answers no_export status export (exported base place image o name)) is found.1 in
+    subst (λ (e : Option Export). Answers no_export status export (option_map (export_row base (place + table.start) trie) e)) (found_in trie name terminal looked_up) at_table
+  where
+    unfolding find_export
+    found_in : (trie name : List ℕ) (terminal : Span) → find_terminal trie name ≡ Some terminal → find_export trie name ≡ option_map (λ e. e.0) (export_in trie terminal)
+    found_in trie name terminal is = ap (λ (o : Option Span). option_and_then (λ (t : Span). option_map (λ e. e.0) (export_in trie t)) o) is

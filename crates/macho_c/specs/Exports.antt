@@ -1,13 +1,14 @@
 -- The names that an image exports. (mach-o/loader.h: LC_DYLD_EXPORTS_TRIE, dyld_info_command,
 -- EXPORT_SYMBOL_FLAGS_..)
-use Rattle.std.specs.Prelude.{◌≡◌, ℕ, ◌+◌, ◌%◌, ◌^◌, ◌==◌, ◌≤◌, List, length, Option, IfSome, bit_and, if◌then◌else◌}
+use Rattle.std.specs.Prelude.{◌≡◌, ℕ, ◌+◌, ◌%◌, ◌^◌, ◌==◌, ◌≤◌, List, length, Option, Some, IfSome, bit_and, if◌then◌else◌}
 use Rattle.std.specs.Option.{option_map, option_map_or, option_and_then, unwrap_or}
 use Rattle.macho_fields.specs.Field.{part}
 use Rattle.macho_fields.specs.Image.{commands_of}
 use Rattle.macho_fields.specs.Segment.{base_of}
 use Rattle.macho_spans.specs.Span.{end_of}
 use Rattle.macho_spans.specs.declared.span.Span.{Span}
-use Rattle.macho_exports.specs.ExportTrie.{EXPORT_SYMBOL_FLAGS_KIND_MASK, EXPORT_SYMBOL_FLAGS_KIND_ABSOLUTE, find_export}
+use Rattle.macho_alike.specs.ExportModels.{IsExportOf}
+use Rattle.macho_exports.specs.ExportTrie.{EXPORT_SYMBOL_FLAGS_KIND_MASK, EXPORT_SYMBOL_FLAGS_KIND_ABSOLUTE, export_in, find_export}
 use Rattle.macho_exports.specs.Exports.{export_table}
 use Rattle.macho_exports.specs.declared.export_trie.Export.{Export}
 use Rattle.macho_exports.specs.declared.export_trie.Target.{Target}
@@ -64,3 +65,13 @@ FindsExport image place name status export =
     IfSome (export_table image) (λ table. end_of table ≤ length image)
     × Answers no_export status export
     (exported (unwrap_or (base_of image (commands_of image)) 0) place image (export_table image) name)
+
+-- The answer is the row of the export that any reader finds, whether it looks the name up or lists all names, if all of
+-- them find one: in each image of a file that the unambiguous profile accepts.
+abbrev pub FindsAlike : List ℕ → ℕ → List ℕ → ℕ → KesvuotExport → Type 0
+FindsAlike image place name status export =
+    (table terminal : Span) → export_table image ≡ Some table
+    → IsExportOf (part table.start table.len image) name terminal
+    → Answers no_export status export
+    (option_map (export_row (unwrap_or (base_of image (commands_of image)) 0) (place + table.start) (part table.start table.len image))
+    (option_map (λ e. e.0) (export_in (part table.start table.len image) terminal)))

@@ -9,7 +9,8 @@ ghost use Rattle.macho_fields.specs.Layers.{NothingBreaks};
 ghost use Rattle.macho_fields.specs.Rules.{BreaksImage};
 ghost use Rattle.macho_spans.specs.Span.{end_of};
 ghost use Rattle.macho_exports.specs.Exports.{export_table as export_table_of};
-ghost use Rattle.macho_c.specs.Exports.{from_base, address_of as address_of_of, export_row, exported, IsExported, IsExport, FindsExport};
+ghost use Rattle.macho_alike.specs.ExportModels.{HasOneExportOfName};
+ghost use Rattle.macho_c.specs.Exports.{from_base, address_of as address_of_of, export_row, exported, IsExported, IsExport, FindsExport, FindsAlike};
 ghost use Rattle.macho_rows.specs.Image.{image_in, ShowsUnbroken};
 
 use crate::export_trie::export_trie;
@@ -52,6 +53,8 @@ pub extern "C" fn kesvuot_find_export(
     ensures answer { IsExport (image_in file.now image.now) image.now name.now result export.new }
     ensures all { ShowsUnbroken file.now image.now
         → FindsExport (image_in file.now image.now) image.now.slice.offset name.now result export.new }
+    ensures alike { ShowsUnbroken file.now image.now → HasOneExportOfName (image_in file.now image.now)
+        → FindsAlike (image_in file.now image.now) image.now.slice.offset name.now result export.new }
 {
     let found = export_named(&image.held(file), image.base, name);
     answer(found, NO_EXPORT, export)

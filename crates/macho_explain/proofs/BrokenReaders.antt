@@ -1,5 +1,5 @@
 -- What the rules of the unambiguous profile are about is there, where the rules are broken.
-use Rattle.std.proofs.Common.{◌≡◌, ◌∙◌, ℕ, ◌+◌, ◌≤◌, ◌<◌, ◌⊎◌, ◌==◌, List, Any, Contains, Option, None, Some, Bool, true, false, length, ap, arith, inl, inr, refl, subst, sym}
+use Rattle.std.proofs.Common.{◌≡◌, ◌∙◌, ℕ, ◌+◌, ◌<◌, ◌⊎◌, ◌==◌, List, Any, Contains, Option, None, Some, true, false, length, ap, arith, inl, inr, refl, subst, sym}
 use Rattle.std.specs.Prelude.{MatchOption, ⊤}
 use Rattle.std.proofs.lemmas.Bool.{cases_Bool, eqb-true, eq-eqb, false≢true, le-leb}
 use Rattle.macho_fields.proofs.Lists.{any_of}
@@ -7,7 +7,7 @@ use Rattle.macho_fields.proofs.Opened.{command_inside, structure_inside}
 use Rattle.macho_fields.proofs.Options.{some_of}
 use Rattle.macho_fields.specs.Field.{field, number}
 use Rattle.macho_fields.specs.First.{rank}
-use Rattle.macho_fields.specs.Image.{command_cmd, command_size, commands_of, word}
+use Rattle.macho_fields.specs.Image.{command_cmd, commands_of, word}
 use Rattle.macho_fields.specs.Layers.{KeptBelow, NothingBreaks}
 use Rattle.macho_fields.specs.LoadCommands.{structure_of}
 use Rattle.macho_fields.specs.Rules.{BreaksFile, BreaksImage}

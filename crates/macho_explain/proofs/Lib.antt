@@ -26,3 +26,8 @@ pub mod Wholes
 pub mod Begins
 pub mod Numbered
 pub mod BrokenReaders
+pub mod BrokenAlike
+pub mod EdgeLabels
+pub mod EarlierNames
+pub mod Directories
+pub mod ExportedNames

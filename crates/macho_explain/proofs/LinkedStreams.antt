@@ -41,6 +41,10 @@ library libraries cursor n (step.SetLibrary ordinal) broken = refl
 library libraries cursor n (step.SetSpecial below) broken = refl
 library libraries cursor n other broken = absurd broken
 
+-- an opcode is known
+abbrev pub AnyStep : List ℕ → Opcodes → List ℕ → ℕ → Type 0
+AnyStep image = AtStep (λ before next. Unit {0})
+
 module _ (image : List ℕ) (keeps : NothingBreaks (BreaksImage image None)) where
   opens : Opens image
   opens (r, place, before, broken) = keeps r place broken
@@ -104,3 +108,12 @@ module _ (image : List ℕ) (keeps : NothingBreaks (BreaksImage image None)) whe
 
   pub long_names : (place : ℕ) → InBinds image TooLong place → HasBind asked.Names image place
   long_names place broken = (opens, binds TooLong (AtStep (λ before next. Asks asked.Names next)) long place broken)
+
+  -- any known one
+  any_step : Near (AnyStep image) (AtStep (λ before next. Unit {0}))
+  any_step of stream offset (before, next, after, are, at, has) =
+      let within = step_within of stream offset next after at in
+      (let less : offset < length stream = omega (arith, within.0, within.1) in less, (before, next, after, are, at, tt))
+
+  pub bind_step : (place : ℕ) → InBinds image AnyStep place → HasBind asked.First image place
+  bind_step place broken = (opens, binds AnyStep (AtStep (λ before next. Unit {0})) any_step place broken)

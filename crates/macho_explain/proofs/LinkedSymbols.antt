@@ -1,8 +1,9 @@
 -- What the rules of symbols, of relocations and of initializers are about is there, where the rules are broken.
-use Rattle.std.proofs.Common.{◌≡◌, ℕ, ◌+◌, ◌*◌, ◌≤◌, ◌<◌, ◌⊎◌, List, length, map, Contains, None, inl, inr, lit<, refl, sym, arith}
+use Rattle.std.proofs.Common.{◌≡◌, ◌∙◌, ℕ, ◌+◌, ◌*◌, ◌≤◌, ◌<◌, ◌⊎◌, List, length, map, Contains, None, Some, inl, inr, lit<, refl, sym, arith}
+use Rattle.std.specs.Prelude.{slice_get}
 use Rattle.std.proofs.lemmas.Bool.{cases_lt}
 use Rattle.macho_fields.proofs.Lists.{any_of, contains_mapped}
-use Rattle.macho_fields.proofs.Options.{of_some}
+use Rattle.macho_fields.proofs.Options.{of_some, some_of}
 use Rattle.macho_fields.specs.Image.{commands_of, with_cmd}
 use Rattle.macho_fields.specs.Layers.{NothingBreaks}
 use Rattle.macho_fields.specs.LoadCommands.{symbol_table}
@@ -14,7 +15,8 @@ use Rattle.macho_fields.specs.declared.load_command.Structure.TheVariants as str
 use Rattle.macho_fields.specs.declared.rule.Rule.TheVariants as rule
 use Rattle.macho_image.specs.Command.{first_with_cmd}
 use Rattle.macho_image.specs.Segment.{section_at, sections_of}
-use Rattle.macho_image.specs.Symbol.{symbol_at}
+use Rattle.macho_image.specs.Symbol.{indirect_at, indirects_of, symbol_at}
+use Rattle.macho_image.specs.declared.indirect.Indirect.{Indirect}
 use Rattle.macho_rules.proofs.Judged.{opened_commands}
 use Rattle.macho_rules.proofs.OneCommand.{first_is}
 use Rattle.macho_rules.proofs.Searches.{one_of}
@@ -27,11 +29,13 @@ use Rattle.macho_symbols.specs.declared.relocations.Owner.TheVariants as owners
 use Rattle.macho_symbols.proofs.RelocationWalks.{external_inside, local_inside}
 use Rattle.macho_tables.specs.InitOffsets.{BadOffset, BreaksInitOffset, HasOffsets}
 use Rattle.macho_tables.proofs.InitOffsets.{offset_begins, offsets_inside}
+use Rattle.macho_explain.specs.Alike.{groups_in}
+use Rattle.macho_explain.specs.Compared.{HasIndirect}
 use Rattle.macho_explain.specs.SectionItems.{HasInitOffset, HasItem, HasRelocation, HasRelocationAt}
 use Rattle.macho_explain.specs.Symbols.{HasSymbol}
 use Rattle.macho_explain.specs.Wholes.{Opens}
 use Rattle.macho_explain.specs.declared.section_item.Item.TheVariants as items
-use Rattle.macho_explain.proofs.SymbolsAt.{item_listed}
+use Rattle.macho_explain.proofs.SymbolsAt.{entry_there, item_listed}
 
 module _ (image : List ℕ) (keeps : NothingBreaks (BreaksImage image None)) where
   opens : Opens image
@@ -45,6 +49,12 @@ module _ (image : List ℕ) (keeps : NothingBreaks (BreaksImage image None)) whe
       let inside = table_inside image loader.LC_SYMTAB structure.SymtabCommand c symbol_table rule.SymbolName (lit< tt) (λ other p early. keeps other p) refl has (0, lit< tt, refl) in
       let listed = item_listed (symbol_at image) image (symoff image c) 16 (nsyms image c) k inside less in
       (opens, (k, (symbol_at image (symoff image c + 16 * k), rw first listed, sym at)))
+
+  -- an indirect entry that is listed
+  pub indirect : (k : ℕ) (entry : Indirect) → slice_get (map (indirect_at image) (indirects_of image (commands_of image))) k ≡ Some entry → (place : ℕ) → place ≡ entry.place → HasIndirect image place
+  indirect k entry listed place at =
+      let (d, is, (less, there)) = some_of (λ d. (k < d.nindirectsyms) × (entry.place ≡ d.indirectsymoff + 4 * k)) (groups_in image) (entry_there image k entry listed) in
+      (opens, of_some (λ d. (j : ℕ) × (j < d.nindirectsyms) × (place ≡ d.indirectsymoff + loader.INDIRECT_ENTRY_SIZE * j)) (groups_in image) d is (k, less, at ∙ there))
 
   -- a relocation
   its_place : (P : Relocation → Type 0) (start count place : ℕ) → AtRelocation image start count P place → HasRelocationAt image start count place

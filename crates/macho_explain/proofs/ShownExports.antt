@@ -21,7 +21,7 @@ use Rattle.macho_explain.specs.declared.segment.SegmentWith.TheVariants as with
 
 -- Nodes
 
-mapped_some : {X Y : Type 0} (f : X → Y) (o : Option X) (y : Y) → Some y ≡ option_map f o → (x : X) × (o ≡ Some x) × (y ≡ f x)
+pub mapped_some : {X Y : Type 0} (f : X → Y) (o : Option X) (y : Y) → Some y ≡ option_map f o → (x : X) × (o ≡ Some x) × (y ≡ f x)
 mapped_some f None y is = absurd (none-some y (sym is))
 mapped_some f (Some x) y is = (x, refl, same_Some y (f x) is)
 

@@ -1,18 +1,21 @@
 -- The symbol that is listed at an index, and where it is.
 use Rattle.std.proofs.Common.{◌≡◌, ◌∙◌, ℕ, ◌+◌, ◌*◌, ◌≤◌, ◌<◌, ◌⊎◌, List, [], map, Option, true, inl, inr, refl, sym, ap, subst, arith}
-use Rattle.std.specs.Prelude.{nat_le, slice_get, length, None, Some, if◌then◌else◌}
+use Rattle.std.specs.Prelude.{nat_le, slice_get, length, None, Some, IsSomeAnd, if◌then◌else◌}
 use Rattle.std.specs.List.{range_with_len}
 use Rattle.std.specs.Option.{option_map, option_map_or}
 use Rattle.std.proofs.Math.Nat.{mul_comm}
 use Rattle.std.proofs.lemmas.Bool.{cases_Bool, cases_lt, le-leb}
-use Rattle.std.proofs.lemmas.List.FromFn.{length-range_with_len, get_or-range_with_len}
+use Rattle.std.proofs.lemmas.List.{length-map}
+use Rattle.std.proofs.lemmas.List.FromFn.{length-map-range_with_len, length-range_with_len, get_or-range_with_len}
 use Rattle.std.proofs.lemmas.Option.{none-some, same_Some, slice_get-map, slice_get-get_or, slice_get_past}
 use Rattle.macho_fields.specs.Image.{commands_of}
-use Rattle.macho_fields.specs.Symbol.{symoff, nsyms, IsOutside}
+use Rattle.macho_fields.specs.Symbol.{indirectsymoff, nindirectsyms, nsyms, symoff, IsOutside}
 use Rattle.macho_fields.specs.declared.header.loader.TheConstants as loader
 use Rattle.macho_image.specs.Command.{first_with_cmd}
-use Rattle.macho_image.specs.Symbol.{items_inside, symbol_at}
+use Rattle.macho_image.specs.Symbol.{dysymtab_at, indirect_at, indirects_of, items_inside, symbol_at}
+use Rattle.macho_image.specs.declared.indirect.Indirect.{Indirect}
 use Rattle.macho_image.specs.declared.symbol.Symbol.{Symbol}
+use Rattle.macho_explain.specs.Alike.{IsIndirectAt}
 use Rattle.macho_explain.specs.Explain.{IsSymbolAt}
 use Rattle.macho_explain.proofs.Walked.{mapped}
 
@@ -85,3 +88,35 @@ module _ (image : List ℕ) (k place : ℕ) (is : IsSymbolAt image k place) wher
 
   pub symbol_place : (c : ℕ) × (first_with_cmd image loader.LC_SYMTAB (commands_of image) ≡ Some c) × (place ≡ symoff image c + 16 * k)
   symbol_place = in_table (first_with_cmd image loader.LC_SYMTAB (commands_of image)) is.1
+
+-- The indirect entry that is listed at an index
+
+-- an index of a listed item is one of the table
+item_bound : {X : Type 0} (f : ℕ → X) (image : List ℕ) (start each n k : ℕ) (x : X) → slice_get (map f (items_inside image start each n)) k ≡ Some x → k < n
+item_bound {X = X} f image start each n k x is = elim (cases_Bool (nat_le (start + each * n) (length image))) [
+  | inl t ↦ inside (subst (λ b. slice_get (map f (if b then map at (range_with_len 0 n) else [])) k ≡ Some x) t is)
+  | inr none ↦ absurd (none-some x (subst (λ b. slice_get (map f (if b then map at (range_with_len 0 n) else [])) k ≡ Some x) none is))
+]
+  where
+    at : ℕ → ℕ
+    at j = start + each * j
+
+    inside : slice_get (map f (map at (range_with_len 0 n))) k ≡ Some x → k < n
+    inside got = elim (cases_lt k n) [
+      | inl less ↦ less
+      | inr past ↦ (
+          let size = length-map (map at (range_with_len 0 n)) f ∙ length-map-range_with_len at 0 n in
+          absurd (none-some x (sym (slice_get_past (map f (map at (range_with_len 0 n))) k (omega (arith, past, size))) ∙ got))
+          )
+    ]
+
+pub entry_there : (image : List ℕ) (k : ℕ) (entry : Indirect) → slice_get (map (indirect_at image) (indirects_of image (commands_of image))) k ≡ Some entry → IsIndirectAt image k entry.place
+entry_there image k entry listed = in_table (first_with_cmd image loader.LC_DYSYMTAB (commands_of image)) listed
+  where
+    in_table : (first : Option ℕ) → slice_get (map (indirect_at image) (option_map_or (λ c. items_inside image (indirectsymoff image c) 4 (nindirectsyms image c)) first [])) k ≡ Some entry
+        → IsSomeAnd (option_map (dysymtab_at image) first) (λ d. (k < d.nindirectsyms) × (entry.place ≡ d.indirectsymoff + 4 * k))
+    in_table None at = absurd (none-some entry at)
+    in_table (Some c) at = (
+      item_bound (indirect_at image) image (indirectsymoff image c) 4 (nindirectsyms image c) k entry at,
+      ap (λ (i : Indirect). i.place) (item_got (indirect_at image) image (indirectsymoff image c) 4 (nindirectsyms image c) k entry at),
+    )

@@ -36,10 +36,13 @@ use Rattle.macho_fields.specs.declared.header.reloc.TheConstants as reloc
 use Rattle.macho_readers.specs.declared.files.TheConstants as files
 use Rattle.macho_image.specs.Command.{first_with_cmd}
 use Rattle.macho_image.specs.Symbol.{dysymtab_at, symbol_at}
+use Rattle.macho_explain.specs.Alike.{IsDefinitionShown, IsEdgeShown, IsIndirectAt, IsSymbolKindShown, IsTotalShown}
+use Rattle.macho_alike.specs.Exports.{HasClashAt}
 use Rattle.macho_explain.specs.Commanded.{HasEarlier, HasSection, HasWalkEnd, IsGroupPast, field_shown, group_shown, obsolete_counts}
 use Rattle.macho_explain.specs.Elements.{HasOverlap}
 use Rattle.macho_explain.specs.Entries.{HasEntry, HasEntryWith, HasForeign}
 use Rattle.macho_explain.specs.Explain.{all_loads, all_segment_loads, memory_of, IsCommandAt, IsUncounted, long_at, word_at, written}
+use Rattle.macho_explain.specs.Identities.{IsAgreeShown, IsAnyDirectory, IsSlotPlace, IsSlotShown}
 use Rattle.macho_explain.specs.Parts.{IsBefore, Share}
 use Rattle.macho_explain.specs.Readers.{big_word_at, HasLaterLibrary, HasLaterSegment, IsBadStartShown, IsEncryptedShown, IsKindShown, IsNameShown, IsNamesShown, IsOfSameKind, IsOffItsPages, IsPageShown, IsProcessorShown, IsProtectionShown, IsShiftShown, IsTakenShown, IsUnevenShown}
 use Rattle.macho_explain.specs.Seals.{HasOtherHashes, IsRepeatShown, ShowsHash}
@@ -326,6 +329,11 @@ HasNodeWith P image place =
     Opens image
     × InTrie image place (λ trie offset. (offset ≤ length trie) × HasNode trie offset (λ terminal end. P image trie terminal))
 
+-- a node of the trie is there, and one of its labels is empty, or begins with another
+abbrev pub HasClashNode : List ℕ → ℕ → Type 0
+HasClashNode image place =
+    Opens image × InTrie image place (λ trie offset. (offset ≤ length trie) × HasClashAt trie offset)
+
 -- What is shown: of a rule that is judged over the file, by the index of a slice; of one that is judged over each
 -- image. First what the rule is about, then what its numbers, and both parts, are.
 pub data Shown : Type 1 where
@@ -436,3 +444,12 @@ shown rule.NumberShift = OfImage (λ image place. (HasSegment image place × (Ha
 shown rule.SectionName = OfImage (λ image place. Opens image × HasSection image place) IsNamesShown
 shown rule.SectionAlone = OfImage (λ image place. Opens image × HasSection image place) IsTakenShown
 shown rule.EntryOne = OfImage HasCommand IsBadStartShown
+shown rule.BindOnce = OfImage (HasBind asked.First) (λ image place c. OfBinds (λ one. ShowsStep asked.First one image place c))
+shown rule.ExportEdge = OfImage HasClashNode (λ image place c. InTrie image place (λ trie offset. IsEdgeShown trie offset c.value c.limit))
+shown rule.SymbolKind = OfImage HasSymbol IsSymbolKindShown
+shown rule.SymbolTotal = OfImage HasSymbol IsTotalShown
+shown rule.ExportSymbol = OfImage HasSymbol IsDefinitionShown
+shown rule.IndirectName = OfImage HasIndirect (λ image place c. IsIndirectAt image c.value place × (c.limit ≡ word_at image place))
+shown rule.ImportLibrary = OfImage HasSymbol (λ image place c. (c.value ≡ library_ordinal (symbol_at image place)) × (c.limit ≡ library_count image))
+shown rule.SignatureSlot = OfImage (InSignature IsSlotPlace) IsSlotShown
+shown rule.DirectoryAgree = OfImage (InSignature IsAnyDirectory) IsAgreeShown

@@ -1,3 +1,4 @@
+pub mod Alike
 pub mod Blobs
 pub mod Broken
 pub mod Commanded
@@ -8,6 +9,7 @@ pub mod Explain
 pub mod Explained
 pub mod Fixups
 pub mod FirstSlices
+pub mod Identities
 pub mod Judged
 pub mod Linked
 pub mod Parts

@@ -1,6 +1,6 @@
 -- What is shown where readers that look in different ways see another slice, command, segment or section.
 -- (mach-o/fat.h: fat_arch; mach-o/loader.h: load_command, segment_command_64, section_64)
-use Rattle.std.specs.Prelude.{◌≡◌, ◌≢◌, ℕ, ◌+◌, ◌-◌, ◌*◌, ◌%◌, ◌^◌, ◌<◌, ◌≤◌, ◌⊎◌, ◌==◌, ◌||◌, nat_lt, List, [], Some, IsSomeAnd, MatchOption, slice_get, true, if◌then◌else◌}
+use Rattle.std.specs.Prelude.{◌≡◌, ◌≢◌, ℕ, ◌+◌, ◌-◌, ◌*◌, ◌%◌, ◌^◌, ◌<◌, ◌≤◌, ◌⊎◌, ◌==◌, ◌||◌, nat_lt, List, Some, IsSomeAnd, MatchOption, slice_get, true, if◌then◌else◌}
 use Rattle.std.specs.Option.{unwrap_or}
 use Rattle.macho_fields.specs.Field.{field}
 use Rattle.macho_fields.specs.Image.{command_cmd}

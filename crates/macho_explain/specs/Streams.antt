@@ -1,7 +1,7 @@
 -- The streams of opcodes of an image, what the rules are about in them, and what an explanation shows of an opcode. A
 -- place is one in the image, and an offset one in the stream. (mach-o/loader.h: dyld_info_command)
 use Rattle.std.specs.Prelude.{◌≡◌, ℕ, ◌+◌, ◌-◌, ◌%◌, ◌^◌, ◌<◌, ◌⊎◌, List, length, min, Option, None, Some, IsSome}
-use Rattle.std.specs.Option.{option_map}
+use Rattle.std.specs.Option.{option_map, unwrap_or}
 use Rattle.macho_fields.specs.Bytes.{bytes_of}
 use Rattle.macho_fields.specs.Segment.{filesize}
 use Rattle.macho_fields.specs.Symbol.{table_at}
@@ -57,6 +57,7 @@ Asks asked.Symbol next = Unit {0}
 Asks asked.Slot next = Unit {0}
 Asks asked.Total next = Unit {0}
 Asks asked.Names next = Unit {0}
+Asks asked.First next = Unit {0}
 
 -- what is shown of an opcode with those before it: a sum is at most 2^64 - 1
 abbrev pub Shows : Asked → List ℕ → List ℕ → List Step → Step → Conflict → Type 0
@@ -68,6 +69,8 @@ Shows asked.Total image stream before next c =
     (c.value ≡ min (pointers before + writes next) (2 ^ 64 - 1)) × (c.limit ≡ min (budget_of image) (2 ^ 64 - 1))
 Shows asked.Names image stream before next c =
     (c.value ≡ min (names before + looks_up (cursor_after before) next) (2 ^ 64 - 1)) × (c.limit ≡ length stream)
+Shows asked.First image stream before next c =
+    (c.value ≡ (cursor_after before).offset) × (c.limit ≡ unwrap_or (cursor_after before).segment 0)
 
 -- an opcode of a stream of the image is at the place
 abbrev pub HasOpcode : Stream → List ℕ → ℕ → Type 0

@@ -1,6 +1,6 @@
 //! The rules of a file, over the entries of its table and its slices. (`mach-o/fat.h`)
 
-ghost use Rattle.std.specs.Prelude.{◌≡◌, ◌↔◌, ℕ, ◌+◌, ◌*◌, ◌^◌, ◌<◌, ◌≤◌, length, slice_get, IfSome, IsTrue, MatchOption, Some};
+ghost use Rattle.std.specs.Prelude.{◌≡◌, ◌↔◌, ◌+◌, ◌*◌, ◌^◌, ◌<◌, ◌≤◌, length, slice_get, IfSome, IsTrue, MatchOption, Some};
 ghost use Rattle.macho_fields.specs.Bytes.{bytes_of};
 ghost use Rattle.macho_fields.specs.Field.{number};
 ghost use Rattle.macho_fields.specs.Universal.{entry_count, entry_place, entry_size, has_wide_entries, slices_of, IsUniversal};

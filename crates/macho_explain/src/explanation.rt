@@ -1,6 +1,6 @@
 //! Why a file is refused: what is at the place of the verdict, and which parts and numbers conflict there.
 
-ghost use Rattle.std.specs.Prelude.{◌≡◌, ◌≤◌, length, MatchOption};
+ghost use Rattle.std.specs.Prelude.{◌≡◌, ◌≤◌, MatchOption};
 ghost use Rattle.macho_fields.specs.Bytes.{bytes_of};
 ghost use Rattle.macho_explain.specs.Compared.{shown};
 ghost use Rattle.macho_explain.specs.Explained.{ExplainsBy, ExplainsIn, HasPlace, IsExplained, IsUnexplained};
@@ -13,6 +13,7 @@ use crate::command::{
     table_range, table_repeated, thread,
 };
 use crate::conflict::Conflict;
+use crate::definition::{export_symbol, symbol_total};
 use crate::element::{command_slack, element_overlap, stray_byte, unclaimed_byte};
 use crate::entries::{
     fat_align, fat_duplicate, fat_empty, fat_overlap, fat_slice_in_table, fat_slice_magic,
@@ -25,6 +26,8 @@ use crate::header::{
     header_segment, header_truncated,
 };
 use crate::home::table_home;
+use crate::identity::{directory_agree, signature_slot};
+use crate::labels::export_edge;
 use crate::names::{section_name, segment_name};
 use crate::order::number_shift;
 use crate::part::Part;
@@ -41,11 +44,9 @@ use crate::signature::{signature_blob, signature_directory, signature_whole};
 use crate::sliced::{Sliced, image_with};
 use crate::spot::Spot;
 use crate::start::entry_one;
-use crate::stream;
-use crate::symbol::{
-    indirect_index, symbol_indirect, symbol_library, symbol_name, symbol_section, symbol_value,
-};
+use crate::symbol_kind::symbol_kind;
 use crate::universal::{fat_count, fat_header, fat_page};
+use crate::{stream, symbol};
 use macho_fields::{Bytes, Rule};
 
 /// Why a file is refused.
@@ -130,9 +131,9 @@ fn explain_image(rule: Rule, image: &Sliced) -> Option<Explanation>
         Rule::SectionRelocs => section_relocs(image),
         Rule::TableRange => table_range(image),
         Rule::SymbolGroup => symbol_group(image),
-        Rule::SymbolName => symbol_name(image),
-        Rule::SymbolSection => symbol_section(image),
-        Rule::IndirectIndex => indirect_index(image),
+        Rule::SymbolName => symbol::symbol_name(image),
+        Rule::SymbolSection => symbol::symbol_section(image),
+        Rule::IndirectIndex => symbol::indirect_index(image),
         Rule::Entry => entry(image),
         Rule::CommandsEnd => commands_end(image),
         Rule::HeaderSegment => header_segment(image),
@@ -174,9 +175,9 @@ fn explain_image(rule: Rule, image: &Sliced) -> Option<Explanation>
         Rule::SignatureBlob => signature_blob(image),
         Rule::SignatureDirectory => signature_directory(image),
         Rule::SignatureWhole => signature_whole(image),
-        Rule::SymbolLibrary => symbol_library(image),
-        Rule::SymbolValue => symbol_value(image),
-        Rule::SymbolIndirect => symbol_indirect(image),
+        Rule::SymbolLibrary => symbol::symbol_library(image),
+        Rule::SymbolValue => symbol::symbol_value(image),
+        Rule::SymbolIndirect => symbol::symbol_indirect(image),
         Rule::IndirectRange => indirect_range(image),
         Rule::ObsoleteTable => obsolete_table(image),
         Rule::Relocation => relocation(image),
@@ -197,6 +198,15 @@ fn explain_image(rule: Rule, image: &Sliced) -> Option<Explanation>
         Rule::SectionName => section_name(image),
         Rule::SectionAlone => section_alone(image),
         Rule::EntryOne => entry_one(image),
+        Rule::BindOnce => stream::bind_once(image),
+        Rule::ExportEdge => export_edge(image),
+        Rule::SymbolKind => symbol_kind(image),
+        Rule::SymbolTotal => symbol_total(image),
+        Rule::ExportSymbol => export_symbol(image),
+        Rule::IndirectName => symbol::indirect_name(image),
+        Rule::ImportLibrary => symbol::import_library(image),
+        Rule::SignatureSlot => signature_slot(image),
+        Rule::DirectoryAgree => directory_agree(image),
     }
 }
 

@@ -34,16 +34,16 @@ const EXPORTS: u64 = 4;
 // A node of the export trie: its offset there, its terminal part and the offset past its last edge. What does not end
 // in the trie is none.
 #[derive(Clone, Copy)]
-struct NodeHere<'a> {
-    at: Spot,
-    table: Bounded,
-    trie: Bytes<'a>,
-    offset: u64,
-    bounds: Option<(Span, u64)>,
+pub(crate) struct NodeHere<'a> {
+    pub(crate) at: Spot,
+    pub(crate) table: Bounded,
+    pub(crate) trie: Bytes<'a>,
+    pub(crate) offset: u64,
+    pub(crate) bounds: Option<(Span, u64)>,
 }
 
 // The node at the place. One that does not end in the trie has all bytes that follow.
-fn node_here<'a>(sliced: &Sliced<'a>) -> Option<NodeHere<'a>>
+pub(crate) fn node_here<'a>(sliced: &Sliced<'a>) -> Option<NodeHere<'a>>
     ensures { MatchOption result (¬ HasNodeAt (bytes_of sliced.now.held.bytes) sliced.now.place) (IsNodeHere sliced.now) }
 {
     let Whole { table, bytes } = read_whole(sliced, trie_table(sliced)?)?;

@@ -67,7 +67,7 @@ pub(crate) fn directory_repeated(sliced: &Sliced) -> Option<Explanation>
 }
 
 // The first blob in a slot, and the index of its entry.
-fn first_in_slot(signature: &Signature, slot: u32) -> Option<(u32, Blob)>
+pub(crate) fn first_in_slot(signature: &Signature, slot: u32) -> Option<(u32, Blob)>
     ensures blob { IfSome result (λ found. found.1 ≡ blob_at (bytes_of signature.now.bytes) found.0) }
     ensures slot { IfSome result (λ found. found.1.slot ≡ slot) }
     ensures none { IfNone result (AreGoodBlobs (bytes_of signature.now.bytes) → (j : ℕ)

@@ -1,7 +1,7 @@
 //! What the sections of an image have at a place: relocations, and offsets of initializers. (`mach-o/loader.h`:
 //! `section_64`)
 
-ghost use Rattle.std.specs.Prelude.{Any, map, MatchOption};
+ghost use Rattle.std.specs.Prelude.{Any, MatchOption};
 ghost use Rattle.macho_fields.specs.Image.{commands_of};
 ghost use Rattle.macho_image.specs.Segment.{section_at, sections_of};
 ghost use Rattle.macho_explain.specs.SectionItems.{HasItem};

@@ -1,6 +1,6 @@
 //! What is at a place.
 
-ghost use Rattle.std.specs.Prelude.{◌≡◌, Some, Option};
+ghost use Rattle.std.specs.Prelude.{◌≡◌, Option};
 ghost use Rattle.macho_explain.specs.Parts.{spot_of};
 
 use crate::conflict::Conflict;

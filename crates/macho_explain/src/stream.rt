@@ -2,6 +2,7 @@
 //! `dyld_info_command`)
 
 ghost use Rattle.std.specs.Prelude.{◌≡◌, ◌⊎◌, List, slice_get, MatchOption, None, Some};
+ghost use Rattle.std.specs.Option.{unwrap_or};
 ghost use Rattle.macho_fields.specs.Bytes.{bytes_of};
 ghost use Rattle.macho_fields.specs.declared.rule.Rule.{Rule};
 ghost use Rattle.macho_opcodes.specs.declared.step.Step.{Step};
@@ -11,8 +12,8 @@ ghost use Rattle.macho_explain.specs.Wholes.{Opens};
 
 use crate::conflict::Conflict;
 use crate::explanation::Explanation;
-use crate::part::{PartKind, below_zero, clamped};
-use crate::segment::{SegmentWith, find_segment};
+use crate::part::{Part, PartKind, below_zero, clamped};
+use crate::segment::{SegmentWith, find_segment, segment_at};
 use crate::sliced::Sliced;
 use crate::spot::Spot;
 use crate::table::Bounded;
@@ -46,6 +47,8 @@ pub(crate) enum Asked {
     Total,
     // How many bytes of names are looked up up to and including it.
     Names,
+    // The first pointer that it writes.
+    First,
 }
 
 // An opcode of a stream, and what those before it have set, written and looked up.
@@ -271,6 +274,14 @@ pub(crate) fn bind_names(sliced: &Sliced) -> Option<Explanation>
     step_of_binds(sliced, Asked::Names)
 }
 
+// Where the opcode writes: the offset in the segment of its first pointer, and the number of the segment.
+#[inline(never)]
+pub(crate) fn bind_once(sliced: &Sliced) -> Option<Explanation>
+    ensures { ExplainsIn Rule.BindOnce sliced.now result }
+{
+    step_of_binds(sliced, Asked::First)
+}
+
 // The numbers that are asked of a known opcode.
 fn numbers(sliced: &Sliced, here: &OpcodeHere, step: Step, asked: Asked) -> Option<Conflict>
     ensures { MatchOption result (¬ (Opens (bytes_of sliced.now.held.bytes) × Asks asked step))
@@ -293,6 +304,7 @@ fn numbers(sliced: &Sliced, here: &OpcodeHere, step: Step, asked: Asked) -> Opti
             let size = clamped(reached.named.saturating_add(own));
             Some(Conflict::alone(table, size, here.bytes.len()))
         }
+        Asked::First => Some(first_slot(sliced, &image, here)),
     }
 }
 
@@ -305,6 +317,27 @@ fn ordinal(step: Step) -> Option<u64>
         Step::SetSpecial(below) => Some(below_zero(u64::from(below))),
         _ => None,
     }
+}
+
+// The segment that is set, its number, and the offset in it; without one the number is 0.
+fn first_slot(sliced: &Sliced, image: &Image, here: &OpcodeHere) -> Conflict
+    ensures offset { result.value ≡ here.now.reached.cursor.offset }
+    ensures segment { result.limit ≡ unwrap_or here.now.reached.cursor.segment 0 }
+{
+    let (table, cursor) = (here.table.part, here.reached.cursor);
+    let Some(number) = cursor.segment else {
+        return Conflict::alone(table, cursor.offset, 0);
+    };
+    Conflict {
+        second: numbered_segment(sliced, image, number),
+        ..Conflict::alone(table, cursor.offset, u64::from(number))
+    }
+}
+
+// The file bytes of the segment with a number.
+fn numbered_segment(sliced: &Sliced, image: &Image, number: u8) -> Option<Part> {
+    let segment = image.segments().nth(usize::from(number))?;
+    segment_at(sliced, segment.place())
 }
 
 // The segment that is set, where the last slot ends in it, and how many of its bytes can be written.

@@ -1,10 +1,12 @@
 //! The rules of symbols and of indirect entries. (`mach-o/nlist.h`: `nlist_64`)
 
-ghost use Rattle.std.specs.Prelude.{◌≡◌, ◌<◌, ℕ, length, map, slice_get, MatchOption, Some};
+ghost use Rattle.std.specs.Prelude.{◌≡◌, ◌<◌, ℕ, map, slice_get, MatchOption, Some};
 ghost use Rattle.macho_fields.specs.Bytes.{bytes_of};
 ghost use Rattle.macho_fields.specs.Image.{commands_of};
 ghost use Rattle.macho_fields.specs.declared.rule.Rule.{Rule};
 ghost use Rattle.macho_image.specs.Symbol.{symbols_of, symbol_at};
+ghost use Rattle.macho_explain.specs.Alike.{IsIndirectAt};
+ghost use Rattle.macho_explain.specs.Compared.{HasIndirect};
 ghost use Rattle.macho_explain.specs.Explain.{IsSymbolAt};
 ghost use Rattle.macho_explain.specs.Explained.{ExplainsIn, IsSpot};
 ghost use Rattle.macho_explain.specs.Symbols.{HasSymbol};
@@ -22,7 +24,7 @@ use macho_symbols::nlist::library_ordinal;
 use macho_tables::limits::library_count;
 
 // The symbol at the place, and the image.
-fn symbol_here<'a>(sliced: &Sliced<'a>) -> Option<(Spot, Image<'a>, Symbol)>
+pub(crate) fn symbol_here<'a>(sliced: &Sliced<'a>) -> Option<(Spot, Image<'a>, Symbol)>
     ensures { MatchOption result (¬ HasSymbol (bytes_of sliced.now.held.bytes) sliced.now.place)
         (λ found. IsSpot sliced.now found.0 × (found.1 ≡ bytes_of sliced.now.held.bytes)
         × (found.2 ≡ symbol_at (bytes_of sliced.now.held.bytes) sliced.now.place)) }
@@ -39,7 +41,7 @@ fn symbol_here<'a>(sliced: &Sliced<'a>) -> Option<(Spot, Image<'a>, Symbol)>
 }
 
 // The symbol at a place, and its index among those of the image.
-fn symbol_with(image: &Image, place: u64) -> Option<(Symbol, u64)>
+pub(crate) fn symbol_with(image: &Image, place: u64) -> Option<(Symbol, u64)>
     ensures { MatchOption result ((k : ℕ) → ¬ IsSymbolAt image.now k place)
         (λ found. (found.0.place ≡ place) × (slice_get (map (symbol_at image.now)
         (symbols_of image.now (commands_of image.now))) found.1 ≡ Some found.0)) }
@@ -119,10 +121,21 @@ pub(crate) fn symbol_value(sliced: &Sliced) -> Option<Explanation>
     Some(at.shows(Conflict::numbers(symbol.value, 0)))
 }
 
-// The indirect entry at the place, and how many symbols there are.
+// The ordinal of the library that the symbol says, and how many libraries there are.
 #[inline(never)]
-pub(crate) fn indirect_index(sliced: &Sliced) -> Option<Explanation>
-    ensures { ExplainsIn Rule.IndirectIndex sliced.now result }
+pub(crate) fn import_library(sliced: &Sliced) -> Option<Explanation>
+    ensures { ExplainsIn Rule.ImportLibrary sliced.now result }
+{
+    let (at, image, symbol) = symbol_here(sliced)?;
+    let ordinal = u64::from(library_ordinal(symbol));
+    Some(at.shows(Conflict::numbers(ordinal, library_count(&image))))
+}
+
+// The indirect entry at the place, and its index.
+fn indirect_here(sliced: &Sliced) -> Option<(Spot, u64)>
+    ensures { MatchOption result (¬ HasIndirect (bytes_of sliced.now.held.bytes) sliced.now.place)
+        (λ found. IsSpot sliced.now found.0
+        × IsIndirectAt (bytes_of sliced.now.held.bytes) found.1 sliced.now.place) }
 {
     let dysymtab = sliced.held.open()?.dysymtab()?;
     let offset = sliced.place.checked_sub(dysymtab.indirectsymoff)?;
@@ -130,17 +143,37 @@ pub(crate) fn indirect_index(sliced: &Sliced) -> Option<Explanation>
     if offset % INDIRECT_ENTRY_SIZE != 0 || index >= dysymtab.nindirectsyms {
         return None;
     }
-    let (symbols, count) = symtab_table(sliced, 0);
     let part = sliced.structure(
         PartKind::Indirect,
         sliced.place,
         INDIRECT_ENTRY_SIZE,
         index_of(index),
     );
-    Some(
-        sliced.at(part).shows(Conflict {
-            second: symbols,
-            ..Conflict::numbers(u64::from(sliced.word(sliced.place)), count)
-        }),
-    )
+    Some((sliced.at(part), index))
+}
+
+// The indirect entry at the place, and how many symbols there are.
+#[inline(never)]
+pub(crate) fn indirect_index(sliced: &Sliced) -> Option<Explanation>
+    ensures { ExplainsIn Rule.IndirectIndex sliced.now result }
+{
+    let (at, _) = indirect_here(sliced)?;
+    let (symbols, count) = symtab_table(sliced, 0);
+    Some(at.shows(Conflict {
+        second: symbols,
+        ..Conflict::numbers(u64::from(sliced.word(sliced.place)), count)
+    }))
+}
+
+// The index of the indirect entry at the place, and the index of its symbol.
+#[inline(never)]
+pub(crate) fn indirect_name(sliced: &Sliced) -> Option<Explanation>
+    ensures { ExplainsIn Rule.IndirectName sliced.now result }
+{
+    let (at, index) = indirect_here(sliced)?;
+    let (symbols, _) = symtab_table(sliced, 0);
+    Some(at.shows(Conflict {
+        second: symbols,
+        ..Conflict::numbers(index, u64::from(sliced.word(sliced.place)))
+    }))
 }

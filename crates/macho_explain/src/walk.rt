@@ -12,7 +12,7 @@ use macho_fields::{Bytes, Order};
 use macho_readers::entry::is_entry;
 use macho_readers::order::is_eager;
 use macho_rows::cursor::START;
-use macho_rows::load::{Load, Wanted, loads_library, next_wanted, version_min_platform};
+use macho_rows::load::{Load, Wanted, next_wanted, version_min_platform};
 use macho_rows::sections::nsects_at;
 use macho_tables::kinds::share_kind;
 

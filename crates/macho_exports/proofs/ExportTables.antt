@@ -147,7 +147,7 @@ module _ (image : List ℕ) (keeps : NothingBreaks (BreaksImage image None)) whe
       either None none at = info_ends table (dyld_info image) refl at
       either (Some t) some at = data_ends table (first_with_cmd image loader.LC_DYLD_EXPORTS_TRIE (commands_of image)) refl (some ∙ at)
 
-  rule_inside : (Rule : List ℕ → List ℕ → ℕ → Type 0) → ((trie : List ℕ) (offset : ℕ) → Rule image trie offset → offset ≤ length trie) → (place : ℕ) → InExports image Rule place → place ≤ length image
+  pub rule_inside : (Rule : List ℕ → List ℕ → ℕ → Type 0) → ((trie : List ℕ) (offset : ℕ) → Rule image trie offset → offset ≤ length trie) → (place : ℕ) → InExports image Rule place → place ≤ length image
   rule_inside Rule near place broken =
       let (table, is, (offset, at, here)) = some_of (λ t. (offset : ℕ) × (place ≡ t.start + offset) × Rule image (part t.start t.len image) offset) (export_table image) broken in
       let inside = trie_ends table is in

@@ -221,15 +221,19 @@ pub record AreMachineConstants : Type 0 where
 
 -- mach-o/nlist.h
 pub record AreNlistConstants : Type 0 where
-  -- nlist_64.n_type: the masks, and the type of a symbol that is defined in a section
+  -- nlist_64.n_type: the masks, the bit of external symbols, and the type of a symbol that is defined in a section
   pub N_STAB : nlist.N_STAB ≡ 0xe0
   pub N_TYPE : nlist.N_TYPE ≡ 0x0e
+  pub N_EXT : nlist.N_EXT ≡ 0x01
   pub N_SECT : nlist.N_SECT ≡ 0x0e
   -- n_type of a symbol that is undefined, stands for another name, or is undefined in a prebound image
   pub N_UNDF : nlist.N_UNDF ≡ 0
   pub N_INDR : nlist.N_INDR ≡ 0xa
   pub N_PBUD : nlist.N_PBUD ≡ 0xc
+  -- nlist_64.n_desc: another definition can replace it
+  pub N_WEAK_DEF : nlist.N_WEAK_DEF ≡ 0x80
   -- the library ordinals in n_desc that do not number a library
+  pub SELF_LIBRARY_ORDINAL : nlist.SELF_LIBRARY_ORDINAL ≡ 0
   pub DYNAMIC_LOOKUP_ORDINAL : nlist.DYNAMIC_LOOKUP_ORDINAL ≡ 0xfe
   pub EXECUTABLE_ORDINAL : nlist.EXECUTABLE_ORDINAL ≡ 0xff
   -- the size of nlist_64
@@ -290,10 +294,22 @@ pub record AreCsBlobsConstants : Type 0 where
   -- magic numbers
   pub CSMAGIC_EMBEDDED_SIGNATURE : cs.CSMAGIC_EMBEDDED_SIGNATURE ≡ 0xfade0cc0
   pub CSMAGIC_CODEDIRECTORY : cs.CSMAGIC_CODEDIRECTORY ≡ 0xfade0c02
+  pub CSMAGIC_REQUIREMENTS : cs.CSMAGIC_REQUIREMENTS ≡ 0xfade0c01
+  pub CSMAGIC_EMBEDDED_ENTITLEMENTS : cs.CSMAGIC_EMBEDDED_ENTITLEMENTS ≡ 0xfade7171
+  pub CSMAGIC_EMBEDDED_DER_ENTITLEMENTS : cs.CSMAGIC_EMBEDDED_DER_ENTITLEMENTS ≡ 0xfade7172
+  pub CSMAGIC_EMBEDDED_LAUNCH_CONSTRAINT : cs.CSMAGIC_EMBEDDED_LAUNCH_CONSTRAINT ≡ 0xfade8181
+  pub CSMAGIC_BLOBWRAPPER : cs.CSMAGIC_BLOBWRAPPER ≡ 0xfade0b01
   -- slots
   pub CSSLOT_CODEDIRECTORY : cs.CSSLOT_CODEDIRECTORY ≡ 0
   pub CSSLOT_ALTERNATE_CODEDIRECTORIES : cs.CSSLOT_ALTERNATE_CODEDIRECTORIES ≡ 0x1000
   pub CSSLOT_ALTERNATE_CODEDIRECTORY_MAX : cs.CSSLOT_ALTERNATE_CODEDIRECTORY_MAX ≡ 5
+  pub CSSLOT_REQUIREMENTS : cs.CSSLOT_REQUIREMENTS ≡ 2
+  pub CSSLOT_ENTITLEMENTS : cs.CSSLOT_ENTITLEMENTS ≡ 5
+  pub CSSLOT_DER_ENTITLEMENTS : cs.CSSLOT_DER_ENTITLEMENTS ≡ 7
+  pub CSSLOT_LAUNCH_CONSTRAINT_SELF : cs.CSSLOT_LAUNCH_CONSTRAINT_SELF ≡ 8
+  pub CSSLOT_LIBRARY_CONSTRAINT : cs.CSSLOT_LIBRARY_CONSTRAINT ≡ 11
+  pub CSSLOT_SIGNATURESLOT : cs.CSSLOT_SIGNATURESLOT ≡ 0x10000
+  pub CSSLOT_TICKETSLOT : cs.CSSLOT_TICKETSLOT ≡ 0x10002
   -- sizes of structures
   pub CS_SUPER_BLOB_SIZE : cs.CS_SUPER_BLOB_SIZE ≡ 12
   pub CS_BLOB_INDEX_SIZE : cs.CS_BLOB_INDEX_SIZE ≡ 8

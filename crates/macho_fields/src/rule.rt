@@ -26,8 +26,8 @@ pub enum Profile {
     /// of `loader.h` hold.
     Linked = 3,
     /// Readers that choose slices, segments, sections, load commands and entry points in different ways choose the same
-    /// ones, and a kernel that maps whole pages shows the bytes that the headers describe. The profile does not speak
-    /// of names of symbols, exports, binds and signatures.
+    /// ones, and a kernel that maps whole pages shows the bytes that the headers describe. They find one meaning of a
+    /// name, one bind of a location, one library of a symbol, and one identity in a signature.
     Unambiguous = 4,
     /// Each image has a code signature; each code directory has the hashes of all bytes before the signature and of the
     /// blobs in special slots; no byte of the signature can be executed; and each nonzero byte from the signature on is
@@ -308,6 +308,25 @@ pub enum Rule {
     /// A second command says where the program begins, or the image is not a program, or readers find another byte
     /// there, or data.
     EntryOne = 98,
+    /// Two binds of one location differ, or binds of two locations share bytes.
+    BindOnce = 99,
+    /// A label of the export trie is empty, or another label of its node begins with it.
+    ExportEdge = 100,
+    /// The groups of the symbol table say another kind of a symbol than its type, or a symbol without a name shows the
+    /// first string.
+    SymbolKind = 101,
+    /// The names of the external symbols have more bytes than the image.
+    SymbolTotal = 102,
+    /// A symbol says something else of a name than an earlier symbol, or than the export trie.
+    ExportSymbol = 103,
+    /// A bound pointer has an indirect entry with another name than its bind.
+    IndirectName = 104,
+    /// A bind takes the name of an undefined symbol from another library than the symbol says.
+    ImportLibrary = 105,
+    /// A blob of the code signature is in the slot of another one, or its magic number is not the one of its slot.
+    SignatureSlot = 106,
+    /// A code directory says another identity than the first one, or readers find two things in it.
+    DirectoryAgree = 107,
     /// An image has no code signature with a code directory.
     SignatureMissing = 78,
     /// A byte of the code signature lies in memory that may be executed.
@@ -419,6 +438,15 @@ macro_rules! name_before {
             Rule::SectionName => concat!("section-name", $end),
             Rule::SectionAlone => concat!("section-alone", $end),
             Rule::EntryOne => concat!("entry-one", $end),
+            Rule::BindOnce => concat!("bind-once", $end),
+            Rule::ExportEdge => concat!("export-edge", $end),
+            Rule::SymbolKind => concat!("symbol-kind", $end),
+            Rule::SymbolTotal => concat!("symbol-total", $end),
+            Rule::ExportSymbol => concat!("export-symbol", $end),
+            Rule::IndirectName => concat!("indirect-name", $end),
+            Rule::ImportLibrary => concat!("import-library", $end),
+            Rule::SignatureSlot => concat!("signature-slot", $end),
+            Rule::DirectoryAgree => concat!("directory-agree", $end),
             Rule::SignatureMissing => concat!("signature-missing", $end),
             Rule::SignatureExecutable => concat!("signature-executable", $end),
             Rule::DirectoryRepeated => concat!("directory-repeated", $end),
@@ -526,6 +554,15 @@ impl Rule {
         Rule::SectionName,
         Rule::SectionAlone,
         Rule::EntryOne,
+        Rule::BindOnce,
+        Rule::ExportEdge,
+        Rule::SymbolKind,
+        Rule::SymbolTotal,
+        Rule::ExportSymbol,
+        Rule::IndirectName,
+        Rule::ImportLibrary,
+        Rule::SignatureSlot,
+        Rule::DirectoryAgree,
         Rule::SignatureMissing,
         Rule::SignatureExecutable,
         Rule::DirectoryRepeated,
@@ -672,6 +709,15 @@ impl Rule {
             | Rule::SectionName
             | Rule::SectionAlone
             | Rule::EntryOne => Profile::Unambiguous,
+            Rule::BindOnce
+            | Rule::ExportEdge
+            | Rule::SymbolKind
+            | Rule::SymbolTotal
+            | Rule::ExportSymbol
+            | Rule::IndirectName
+            | Rule::ImportLibrary
+            | Rule::SignatureSlot
+            | Rule::DirectoryAgree => Profile::Unambiguous,
             Rule::SignatureMissing
             | Rule::SignatureExecutable
             | Rule::DirectoryRepeated

@@ -1,9 +1,8 @@
 #![tactic(auto)]
 //! What a code signature says of a program, and the rules under which all its readers see the same: which blob is in
-//! a slot, and what the code directories say. No profile judges these rules yet.
+//! a slot, and what the code directories say.
 
 pub mod directory_agree;
-mod header;
 mod identity;
 pub mod law;
 pub mod signature_slot;

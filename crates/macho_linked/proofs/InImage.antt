@@ -69,7 +69,7 @@ module _ (image : List ℕ) (Rule : List ℕ → Opcodes → List ℕ → ℕ �
       ]
 
 module _ (image : List ℕ) (none : NothingBreaks (Breaks image None)) where
-  listed_inside : (command : ℕ) → Contains (commands_of image) command → command ≤ length image
+  pub listed_inside : (command : ℕ) → Contains (commands_of image) command → command ≤ length image
   listed_inside command has =
       let opened = unbroken_opened image none in
       let inside = command_inside image (commands_of image) (opened_facts image opened) (opened_commands image opened) command has in omega (arith, inside)
@@ -82,7 +82,7 @@ module _ (image : List ℕ) (none : NothingBreaks (Breaks image None)) where
       let inside = listed_inside command listed in omega (arith, same, inside)
 
   -- a rule of the bytes of the signature
-  signature_inside : (Rule : ℕ → List ℕ → ℕ → Type 0) → ((start : ℕ) (bytes : List ℕ) (offset : ℕ) → Rule start bytes offset → offset ≤ length bytes)
+  pub signature_inside : (Rule : ℕ → List ℕ → ℕ → Type 0) → ((start : ℕ) (bytes : List ℕ) (offset : ℕ) → Rule start bytes offset → offset ≤ length bytes)
       → (place : ℕ) → InSignature image Rule place → place ≤ length image
   signature_inside Rule near place (table, is, (offset, at, broken)) =
       let inside = data_table_inside image loader.LC_CODE_SIGNATURE refl none table is in

@@ -22,18 +22,18 @@ pub file_unbroken : (file : List ℕ) → KeptBelow (BreaksFile file) (rank rule
 file_unbroken = profiles.all_unbroken BreaksFile Unambiguous rule.FatCount rule.FatPage file_among
 
 -- an image breaks those from the fourth to the last
-among : (image : List ℕ) (r : Rule) (place : ℕ) → BreaksImage image r place → (rank rule.CommandKnown ≤ rank r) × (rank r ≤ rank rule.EntryOne) × (profile_of r ≡ Unambiguous)
+among : (image : List ℕ) (r : Rule) (place : ℕ) → BreaksImage image r place → (rank rule.CommandKnown ≤ rank r) × (rank r ≤ rank rule.DirectoryAgree) × (profile_of r ≡ Unambiguous)
 among image rule.Magic place broken = absurd broken
 among image other place broken = search rules
 
 pub none_before : (image : List ℕ) → KeptBelow (BreaksImage image) (rank rule.CommandKnown)
-none_before = profiles.none_before BreaksImage Unambiguous rule.CommandKnown rule.EntryOne among
+none_before = profiles.none_before BreaksImage Unambiguous rule.CommandKnown rule.DirectoryAgree among
 
 -- where the last rule is unbroken, all are
-pub all_unbroken : (image : List ℕ) → KeptBelow (BreaksImage image) (rank rule.EntryOne + 1) → NothingBreaks (BreaksImage image)
-all_unbroken = profiles.all_unbroken BreaksImage Unambiguous rule.CommandKnown rule.EntryOne among
+pub all_unbroken : (image : List ℕ) → KeptBelow (BreaksImage image) (rank rule.DirectoryAgree + 1) → NothingBreaks (BreaksImage image)
+all_unbroken = profiles.all_unbroken BreaksImage Unambiguous rule.CommandKnown rule.DirectoryAgree among
 
 -- what is broken is unambiguous
 pub first_unambiguous : (file : List ℕ) (b : Break) → IsFirstUnambiguousBroken file b → profile_of b.rule ≡ Unambiguous
 first_unambiguous =
-    profiles.first_among BreaksImage Unambiguous rule.CommandKnown rule.EntryOne among BreaksFile (λ file r place broken. (file_among file r place broken).2)
+    profiles.first_among BreaksImage Unambiguous rule.CommandKnown rule.DirectoryAgree among BreaksFile (λ file r place broken. (file_among file r place broken).2)

@@ -6,6 +6,15 @@ use Rattle.macho_fields.specs.declared.rule.Break.{Break}
 use Rattle.macho_fields.specs.declared.rule.Rule.{Rule}
 use Rattle.macho_fields.specs.declared.rule.Rule.TheVariants as rule
 use Rattle.macho_rules.specs.Profile.{AddedIn}
+use Rattle.macho_alike.specs.Binds.{BreaksBindOnce}
+use Rattle.macho_alike.specs.Exports.{BreaksExportEdge}
+use Rattle.macho_alike.specs.ExportSymbols.{BreaksExportSymbol}
+use Rattle.macho_alike.specs.Imports.{BreaksImportLibrary}
+use Rattle.macho_alike.specs.Indirects.{BreaksIndirectName}
+use Rattle.macho_alike.specs.SymbolTotal.{BreaksSymbolTotal}
+use Rattle.macho_alike.specs.Symbols.{BreaksSymbolKind}
+use Rattle.macho_identity.specs.DirectoryAgree.{BreaksDirectoryAgree}
+use Rattle.macho_identity.specs.SignatureSlot.{BreaksSignatureSlot}
 use Rattle.macho_readers.specs.Commands.{BreaksBytesEncrypted, BreaksCommandKnown, BreaksCommandOnce}
 use Rattle.macho_readers.specs.Entry.{BreaksEntryOne}
 use Rattle.macho_readers.specs.Files.{BreaksFatCount, BreaksFatHeader, BreaksFatPage}
@@ -32,6 +41,15 @@ BreaksImage image rule.NumberShift place = BreaksNumberShift image place
 BreaksImage image rule.SectionName place = BreaksSectionName image place
 BreaksImage image rule.SectionAlone place = BreaksSectionAlone image place
 BreaksImage image rule.EntryOne place = BreaksEntryOne image place
+BreaksImage image rule.BindOnce place = BreaksBindOnce image place
+BreaksImage image rule.ExportEdge place = BreaksExportEdge image place
+BreaksImage image rule.SymbolKind place = BreaksSymbolKind image place
+BreaksImage image rule.SymbolTotal place = BreaksSymbolTotal image place
+BreaksImage image rule.ExportSymbol place = BreaksExportSymbol image place
+BreaksImage image rule.IndirectName place = BreaksIndirectName image place
+BreaksImage image rule.ImportLibrary place = BreaksImportLibrary image place
+BreaksImage image rule.SignatureSlot place = BreaksSignatureSlot image place
+BreaksImage image rule.DirectoryAgree place = BreaksDirectoryAgree image place
 BreaksImage image other place = ⊥
 
 -- the unambiguous rule is broken there, by the file or by the bytes of a 64-bit slice

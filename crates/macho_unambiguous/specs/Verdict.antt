@@ -4,6 +4,10 @@ use Rattle.macho_fields.specs.First.{IsUnbroken}
 use Rattle.macho_fields.specs.Image.{commands_of}
 use Rattle.macho_fields.specs.Segment.{all_segments}
 use Rattle.macho_fields.specs.Universal.{IsUniversal}
+use Rattle.macho_alike.specs.Binds.{HasBind}
+use Rattle.macho_alike.specs.ExportSymbols.{HasSymbolsOrExports}
+use Rattle.macho_alike.specs.Imports.{HasLookUp}
+use Rattle.macho_alike.specs.Indirects.{HasDysymtab}
 use Rattle.macho_image.specs.Segment.{sections_of}
 use Rattle.macho_linked.specs.Rules.{IsLinkedUnbroken}
 use Rattle.macho_linked.specs.Verdict.{IsLinkedRefusal}
@@ -15,11 +19,16 @@ use Rattle.macho_readers.specs.Commands.{HasSeveralPlatforms}
 use Rattle.macho_unambiguous.specs.Rules.{IsFirstUnambiguousBroken}
 use Rattle.macho_readers.specs.declared.names.TheConstants.{FEW_NAMES}
 
--- an image has many sections or many segments, or versions of several platforms
+-- the rules of names take memory: the image has a bind or an import, symbols, indirect entries or exports
+abbrev pub NamesTakeMemory : List ℕ → Type 0
+NamesTakeMemory image =
+    HasBind image ⊎ (HasLookUp image ⊎ (HasDysymtab image ⊎ HasSymbolsOrExports image))
+
+-- an image has many sections or many segments, versions of several platforms, a bind or an import, symbols or exports
 abbrev pub TakesMemory : List ℕ → Type 0
 TakesMemory image =
     (FEW_NAMES < length (sections_of image (commands_of image)))
-    ⊎ ((FEW_NAMES < length (all_segments image)) ⊎ HasSeveralPlatforms image)
+    ⊎ ((FEW_NAMES < length (all_segments image)) ⊎ (HasSeveralPlatforms image ⊎ NamesTakeMemory image))
 
 -- a file is universal, or the image in a slice takes memory
 abbrev pub TakesMemoryIn : List ℕ → ℕ → Type 0

@@ -7,13 +7,19 @@ ghost use Rattle.macho_fields.specs.Layers.{NothingBreaks, KeptBelow, Continues}
 ghost use Rattle.macho_fields.specs.Rules.{BreaksImage as Breaks};
 ghost use Rattle.macho_fields.specs.Universal.{IsUniversal};
 ghost use Rattle.macho_fields.specs.declared.rule.Rule.{Rule};
+ghost use Rattle.macho_linked.specs.Rules.{BreaksImage as BreaksLinked};
 ghost use Rattle.macho_rules.specs.Check.{ContinuesWithMemory};
 ghost use Rattle.macho_rules.specs.Verdict.{IsRefusalOf};
 ghost use Rattle.macho_unambiguous.specs.Rules.{BreaksFile, BreaksImage};
 ghost use Rattle.macho_unambiguous.specs.Verdict.{TakesMemory};
 
 use crate::profile::Unambiguous;
+use macho_alike::export_symbol::export_symbol;
+use macho_alike::symbol_total::symbol_total;
+use macho_alike::{bind_once, export_edge, import_library, indirect_name, symbol_kind};
 use macho_fields::{Break, Rule};
+use macho_identity::directory_agree::directory_agree;
+use macho_identity::signature_slot::signature_slot;
 use macho_image::Image;
 use macho_readers::commands::{bytes_encrypted, command_known};
 use macho_readers::entry::entry_one;
@@ -49,10 +55,11 @@ fn judge_file(verified: &Verified, rule: Rule, least: Option<u64>) -> Result<(),
     rule.judge(least)
 }
 
-// Decides the rules of an image that breaks no rule of the layout, in their order. It returns the first broken one, with
-// its place in the image.
+// Decides the rules of an image that breaks no rule of the layout and no linked rule, in their order. It returns the first
+// broken one, with its place in the image.
 pub(crate) fn check_image(alloc: Global, image: &Image) -> Result<(), Refusal>
     requires layout { NothingBreaks (Breaks image.now None) }
+    requires linked { NothingBreaks (BreaksLinked image.now) }
     ensures unbroken { OnOk result (NothingBreaks (BreaksImage image.now)) }
     ensures refused { IfErr result (IsRefusalOf (BreaksImage image.now) (TakesMemory image.now)) }
 {
@@ -60,6 +67,8 @@ pub(crate) fn check_image(alloc: Global, image: &Image) -> Result<(), Refusal>
     check_segments(alloc, image)?;
     check_sections(alloc, image)?;
     Unambiguous::judge(image, Rule::EntryOne, entry_one(image))?;
+    check_names(alloc, image)?;
+    check_signature(image)?;
     Ok(())
 }
 
@@ -98,5 +107,39 @@ fn check_sections(alloc: Global, image: &Image) -> Result<(), Refusal>
     Unambiguous::judge(image, Rule::SectionName, name)?;
     let alone = section_alone(alloc, image)?;
     Unambiguous::judge(image, Rule::SectionAlone, alone)?;
+    Ok(())
+}
+
+// The rules of binds, exports and symbols.
+fn check_names(alloc: Global, image: &Image) -> Result<(), Refusal>
+    requires layout { NothingBreaks (Breaks image.now None) }
+    requires linked { NothingBreaks (BreaksLinked image.now) }
+    requires kept { KeptBelow (BreaksImage image.now) (rank Rule.BindOnce) }
+    ensures { ContinuesWithMemory (BreaksImage image.now) Rule.ImportLibrary (TakesMemory image.now) result }
+{
+    let bind = bind_once(alloc, image)?;
+    Unambiguous::judge(image, Rule::BindOnce, bind)?;
+    let edge = export_edge(alloc, image)?;
+    Unambiguous::judge(image, Rule::ExportEdge, edge)?;
+    Unambiguous::judge(image, Rule::SymbolKind, symbol_kind(image))?;
+    Unambiguous::judge(image, Rule::SymbolTotal, symbol_total(image))?;
+    let symbol = export_symbol(alloc, image)?;
+    Unambiguous::judge(image, Rule::ExportSymbol, symbol)?;
+    let indirect = indirect_name(alloc, image)?;
+    Unambiguous::judge(image, Rule::IndirectName, indirect)?;
+    let library = import_library(alloc, image)?;
+    Unambiguous::judge(image, Rule::ImportLibrary, library)?;
+    Ok(())
+}
+
+// The rules of the code signature.
+fn check_signature(image: &Image) -> Result<(), Break>
+    requires layout { NothingBreaks (Breaks image.now None) }
+    requires linked { NothingBreaks (BreaksLinked image.now) }
+    requires kept { KeptBelow (BreaksImage image.now) (rank Rule.SignatureSlot) }
+    ensures { Continues (BreaksImage image.now) Rule.DirectoryAgree result }
+{
+    Unambiguous::judge(image, Rule::SignatureSlot, signature_slot(image))?;
+    Unambiguous::judge(image, Rule::DirectoryAgree, directory_agree(image))?;
     Ok(())
 }

@@ -10,6 +10,7 @@ ghost use Rattle.macho_fields.specs.Rules.{BreaksFile, BreaksImage};
 ghost use Rattle.macho_fields.specs.Universal.{OfEachImage};
 ghost use Rattle.macho_fields.specs.declared.rule.Profile.TheVariants.{Unambiguous};
 ghost use Rattle.macho_fields.specs.declared.rule.Rule.{Rule};
+ghost use Rattle.macho_linked.specs.Rules.{IsLinkedUnbroken};
 ghost use Rattle.macho_strict.specs.First.{IsStrictlyUnbroken};
 ghost use Rattle.macho_strict.specs.Rules.{BreaksStrictImage};
 ghost use Rattle.macho_readers.specs.CommandModels.{HasOneMeaning};
@@ -173,11 +174,12 @@ pub fn first_unambiguous_broken_is_unambiguous(file: &[u8], first: Break)
     ensures { profile_of first.rule ≡ Unambiguous }
 {}
 
-/// Any two readers give one answer to each question about a file that breaks no rule of the layout, no strict rule and
-/// no unambiguous rule.
+/// Any two readers give one answer to each question about a file that breaks no rule of the layout, no strict rule, no
+/// linked rule and no unambiguous rule.
 pub fn unambiguous_unbroken_is_unambiguous(file: &[u8])
     requires unbroken { IsUnbroken file.now }
     requires strictly { IsStrictlyUnbroken file.now }
+    requires linked { IsLinkedUnbroken file.now }
     requires unambiguous { IsUnambiguousUnbroken file.now }
     ensures { IsUnambiguous file.now }
 {}

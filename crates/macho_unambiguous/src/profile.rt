@@ -15,11 +15,13 @@ impl ProfileRules for Unambiguous {
 }
 
 impl ImageProfile for Unambiguous {
+    ghost use Rattle.macho_fields.specs.Layers.{NothingBreaks};
+    ghost use Rattle.macho_linked.specs.Rules.{BreaksImage as BreaksLinked};
     ghost use Rattle.macho_unambiguous.specs.Verdict.{TakesMemory};
 
     ghost takes_memory = { TakesMemory };
 
-    ghost before = { λ _. Unit {0} };
+    ghost before = { λ image. NothingBreaks (BreaksLinked image) };
 
     fn check_image(alloc: Global, image: &Image) -> Result<(), Refusal> {
         check_image(alloc, image)

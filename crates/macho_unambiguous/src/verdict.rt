@@ -1,6 +1,9 @@
 //! The unambiguous verdict on a file.
 
 ghost use Rattle.std.specs.Prelude.{◌≡◌, OnOk, IfOk, IfErr};
+ghost use Rattle.macho_fields.specs.Layers.{NothingBreaks};
+ghost use Rattle.macho_fields.specs.Universal.{OfEachImage};
+ghost use Rattle.macho_linked.specs.Rules.{BreaksImage as BreaksLinked};
 ghost use Rattle.macho_rules.specs.Profile.{IsAddedRefusal};
 ghost use Rattle.macho_unambiguous.specs.Rules.{IsBrokenIn, IsUnambiguousUnbroken};
 ghost use Rattle.macho_unambiguous.specs.Unambiguous.{KeepsUnambiguous};
@@ -36,6 +39,7 @@ pub fn verify_unambiguous<'a>(alloc: Global, file: &'a [u8]) -> Result<Verified<
 // break is its offset in the file. It stands apart to save the stack of the verdict by the linked rules.
 #[inline(never)]
 fn check(alloc: Global, verified: &Verified) -> Result<(), Refusal>
+    requires { OfEachImage (λ image. NothingBreaks (BreaksLinked image)) verified.now }
     ensures unbroken { OnOk result (IsUnambiguousUnbroken verified.now) }
     ensures refused { IfErr result
         (IsAddedRefusal (IsBrokenIn verified.now) (TakesMemoryIn verified.now) verified.now) }

@@ -7,11 +7,8 @@ pub const N_STAB: u8 = 0xe0;
 /// The bits of `n_type` that are the kind of the symbol.
 pub const N_TYPE: u8 = 0xe;
 
-/// The kind of a symbol that is defined in the section with the number `n_sect`.
-pub const N_SECT: u8 = 0xe;
-
-/// The size in bytes of `nlist_64`, an entry of the symbol table.
-pub const NLIST_64_SIZE: u64 = 16;
+/// The bit of a symbol that is external.
+pub const N_EXT: u8 = 0x1;
 
 /// The type of a symbol that another image defines, or, if its value is not 0, of a common symbol.
 pub const N_UNDF: u8 = 0x0;
@@ -22,11 +19,23 @@ pub const N_INDR: u8 = 0xa;
 /// The type of a symbol that another image defines, in a prebound image.
 pub const N_PBUD: u8 = 0xc;
 
+/// The type of a symbol that is defined in the section with the number `n_sect`.
+pub const N_SECT: u8 = 0xe;
+
+/// The bit of a definition that another one of its name can replace.
+pub const N_WEAK_DEF: u16 = 0x80;
+
+/// The library ordinal of a symbol of the image itself.
+pub const SELF_LIBRARY_ORDINAL: u16 = 0x0;
+
 /// The library ordinal of a symbol that is looked for in all images.
 pub const DYNAMIC_LOOKUP_ORDINAL: u16 = 0xfe;
 
 /// The library ordinal of a symbol of the program that loads the image.
 pub const EXECUTABLE_ORDINAL: u16 = 0xff;
+
+/// The size in bytes of `nlist_64`, an entry of the symbol table.
+pub const NLIST_64_SIZE: u64 = 16;
 
 /// The offsets of fields of `nlist_64`, each of 32 bits if nothing else is said.
 pub mod nlist_64 {

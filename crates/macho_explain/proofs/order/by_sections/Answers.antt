@@ -2,8 +2,6 @@ use Rattle.std.proofs.Common.{◌≡◌, ◌≢◌, ◌∙◌, ℕ, List, ap, in
 use Rattle.macho_fields.specs.Bytes.{bytes_of}
 use Rattle.macho_fields.specs.Segment.{vmaddr}
 use Rattle.macho_readers.specs.Order.{segment_number, IsRunNumber}
-use Rattle.macho_explain.specs.Readers.{first_address, AreNumbersShown, AreStartsShown}
-use Rattle.macho_explain.specs.declared.conflict.Conflict.{Conflict}
 use Rattle.macho_explain.proofs.order.by_sections.Goals as goal
 
 pub returns-in_err-image : goal.returns-in_err-image

@@ -1,4 +1,4 @@
-use Rattle.std.proofs.Common.{◌≡◌, ◌+◌, ◌-◌, ◌∙◌, ap₂}
+use Rattle.std.proofs.Common.{◌+◌, ◌-◌, ◌∙◌, ap₂}
 use Rattle.macho_fields.specs.Bytes.{bytes_of}
 use Rattle.macho_explain.specs.Explain.{written}
 use Rattle.macho_explain.proofs.Begins.{byte_found}

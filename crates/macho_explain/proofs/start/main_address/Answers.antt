@@ -1,4 +1,4 @@
-use Rattle.std.proofs.Common.{◌≡◌, ◌+◌, ◌∙◌, ap, ap₂, sym}
+use Rattle.std.proofs.Common.{◌+◌, ◌∙◌, ap, ap₂}
 use Rattle.macho_fields.specs.Bytes.{bytes_of}
 use Rattle.macho_explain.specs.Explain.{long_at, written}
 use Rattle.macho_explain.proofs.Begins.{main_found, main_none}

@@ -1,4 +1,7 @@
-use Rattle.std.proofs.Common.{List, ℕ, subst, arith}
+use Rattle.std.proofs.Common.{List, ℕ, subst, sym, arith}
+use Rattle.macho_linked.specs.Rules.{BreaksImage as LinkedImage, IsLinkedUnbroken}
+use Rattle.macho_rules.specs.Profile.{NoFileRule}
+use Rattle.macho_rules.proofs.Profiles.{images_keep}
 use Rattle.macho_rules.proofs.Verdicts.{passed_on}
 use Rattle.macho_unambiguous.specs.Rules.{IsUnambiguousUnbroken}
 use Rattle.macho_unambiguous.specs.Verdict.{IsUnambiguousRefusal}
@@ -19,6 +22,9 @@ returns-in_err-check-clause-refused c =
     (unambiguous_refused file c.in_ok-verified.ensures.accepted r
     (subst (λ (bytes : List ℕ). IsUnambiguousBreak bytes r) c.in_ok-verified.ensures.file c.in_err-check.ensures.refused))
 
+pub check-requires : goal.check-requires
+check-requires c = images_keep c.in_ok-verified.verified NoFileRule LinkedImage (subst IsLinkedUnbroken (sym c.in_ok-verified.ensures.file) c.in_ok-verified.ensures.accepted.linked)
+
 pub returns-clause-accepted : goal.returns-clause-accepted
 returns-clause-accepted c =
     let file = c.args.file.now in
@@ -26,5 +32,5 @@ returns-clause-accepted c =
     let unbroken = subst IsUnambiguousUnbroken c.in_ok-verified.ensures.file c.in_ok-check.ensures.unbroken in record {
       linked = kept;
       unbroken = unbroken;
-      unambiguous = file_unambiguous file (λ k. let f = c.type_inv.file k in omega (arith, f.fits)) kept.layout kept.strict unbroken;
+      unambiguous = file_unambiguous file (λ k. let f = c.type_inv.file k in omega (arith, f.fits)) kept.layout kept.strict kept.linked unbroken;
     }

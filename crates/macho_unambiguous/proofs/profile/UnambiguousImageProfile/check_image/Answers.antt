@@ -7,4 +7,4 @@ use Rattle.macho_unambiguous.proofs.profile.UnambiguousImageProfile.check_image.
 pub returns-clause-inside : goal.returns-clause-inside
 returns-clause-inside c =
     let image = c.args.image.now in
-    refused_inside (BreaksImage image) (TakesMemory image) image (place_inside image c.requires.layout) c.check_image.result c.check_image.ensures.refused
+    refused_inside (BreaksImage image) (TakesMemory image) image (place_inside image c.requires.layout c.requires.before) c.check_image.result c.check_image.ensures.refused

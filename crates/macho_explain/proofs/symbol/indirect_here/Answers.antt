@@ -6,7 +6,7 @@ use Rattle.macho_fields.specs.declared.header.loader.TheConstants as loader
 use Rattle.macho_image.specs.Command.{first_with_cmd}
 use Rattle.macho_image.specs.Symbol.{dysymtab_at}
 use Rattle.macho_image.specs.declared.dysymtab.Dysymtab.{Dysymtab}
-use Rattle.macho_explain.proofs.symbol.indirect_index.Goals as goal
+use Rattle.macho_explain.proofs.symbol.indirect_here.Goals as goal
 
 -- one of its entries is at the place
 abbrev Entry : ℕ → Dysymtab → Type 0
