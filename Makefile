@@ -40,7 +40,7 @@ CALLS = $$(sed -n 's/^\.Nm \(kesvuot_[a-z_]*\).*/\1/p' man/kesvuot.3)
 FILL = sed -e 's|@PREFIX@|$(PREFIX)|; s|@LIBDIR@|$(LIBDIR)|; s|@INCLUDEDIR@|$(INCLUDEDIR)|' \
     -e 's|^\([a-z]*dir\)=$(PREFIX)/|\1=$${prefix}/|' \
     -e "s|@INCLUDE_FROM_HERE@|$$(realpath -ms --relative-to='$(LIBDIR)/cmake/kesvuot' '$(INCLUDEDIR)')|" \
-    -e "s|@VERSION@|$$(cat VERSION)|; s|@NUMBERS@|$$(sed 's/-.*//' VERSION)|; s|@MAJOR@|$$(sed 's/[.].*//' VERSION)|"
+    -e "s|@NUMBERS@|$$(sed 's/-.*//' VERSION)|; s|@MAJOR@|$$(sed 's/[.].*//' VERSION)|"
 # The same for the command kesvuot, which finds the package and the library from the folder of its file.
 FILL_TOOL = sed -e "1s|@PYTHON@|$(PYTHON)|; s|@LIB_FROM_HERE@|$$(realpath -ms --relative-to='$(BINDIR)' '$(LIBDIR)')|" \
     -e "s|@PACKAGE_FROM_HERE@|$$(realpath -ms --relative-to='$(BINDIR)' "$(PYTHONDIR)")|"
@@ -108,7 +108,7 @@ uninstall:
 	for call in $(CALLS); do rm -f $(TO_MAN)/man3/$$call.3; done
 	rmdir $(TO_DOC) 2>/dev/null || :
 
-# Two Debian packages, and an archive for any other system.
+# Two Debian packages; and for any other system an archive, and a wheel for Python with the library.
 deb: built
 	@packages=$$(packaging/pack deb "$(OUT)") && echo "$$packages" && \
 	    { ! command -v lintian >/dev/null || echo "$$packages" | tr '\n' '\0' | xargs -0 lintian --fail-on error; }

@@ -33,7 +33,7 @@ from fixtures import images, table_mutants
 from fixtures.files import LINKED, SEALED
 from fixtures.notation import read_vectors
 from readers import code_signature, export_trie, plain_dyld
-from reference import explanations, oracle, oracle_trials
+from reference import HIDDEN, explanations, oracle, oracle_trials
 from support.calling import TOP, wait_until
 from support.programs import MACHO_VERIFY, PROFILES
 from support.rules import read_rules
@@ -42,7 +42,7 @@ import kesvuot  # pylint: disable=wrong-import-order
 from kesvuot.constants import (  # pylint: disable=wrong-import-order
     LC_CODE_SIGNATURE, LC_DATA_IN_CODE, LC_DYLD_CHAINED_FIXUPS, LC_DYLD_EXPORTS_TRIE, LC_DYSYMTAB, LC_FUNCTION_STARTS,
     LC_LOAD_DYLINKER, LC_RPATH, LC_SOURCE_VERSION, LC_SYMTAB, LC_VERSION_MIN_IPHONEOS, LC_VERSION_MIN_MACOSX,
-    LC_VERSION_MIN_TVOS, LC_VERSION_MIN_WATCHOS)
+    LC_VERSION_MIN_TVOS, LC_VERSION_MIN_WATCHOS, MH_TWOLEVEL, N_ALT_ENTRY, N_WEAK_DEF, N_WEAK_REF)
 
 SHOWN = 20
 # The commands whose data tests/fixtures/*.reads and tests/real/*.reads show, in their order. The last one is of another kind.
@@ -110,7 +110,7 @@ def sealed_layout(file):
 
 
 def cdhash_lines(image):
-    for blob in image.blobs():
+    for blob in image.blobs:
         if blob.slot in code_signature.DIRECTORY_SLOTS:
             directory = blob.code_directory()
             yield f"  cdhash {code_signature.HASHES[directory.hash_type][0]} {directory.cdhash().hex()}\n"
@@ -163,8 +163,8 @@ def explain_vectors(report):
              for _, vectors in oracle_trials.read_all_vectors(profile) for vector in vectors]
     report.alike("explanations", "refusals", ((name, said[2], wanted_explanation(data, *said[:2]))
                                               for name, data, said in found if said))
-    report.case("the rules that are explained", sorted({said[0] for _, _, said in found if said}),
-                sorted(rule.name for rule in read_rules()))
+    report.case("the rules that are explained", {said[0] for _, _, said in found if said},
+                {rule.name for rule in read_rules()} - HIDDEN)
     other = kesvuot.Refused("section-file", 1 << 64), kesvuot.Refused("no-rule", 0), kesvuot.Refused("magic", 1)
     report.case("no refusals of these bytes", [kesvuot.explain(b"", refused) for refused in other], [None, None, None])
 
@@ -204,8 +204,8 @@ def text_of(name):
     return str(name, "utf-8")
 
 
-def name_of(image, symbol):
-    return text_of(image.name(symbol)) if symbol.strx else "(none)"
+def name_of(symbol):
+    return text_of(symbol.name) if symbol.strx else "(none)"
 
 
 def debugged(name, fields):
@@ -267,15 +267,15 @@ def reads_of_symbols(image):
         symbol = image.symbols[index]
         place = image.symtab.symoff + 16 * index
         inside = "" if symbol.section is None else " in " + text_of(image.sections[symbol.section].name)
-        yield (f"symbol {index} {name_of(image, symbol)} {symbol.value:#x} at {place:#x} strx {symbol.strx} "
+        yield (f"symbol {index} {name_of(symbol)} {symbol.value:#x} at {place:#x} strx {symbol.strx} "
                f"type {symbol.type:#x} sect {symbol.sect} desc {symbol.desc:#x}{inside}")
     groups = {"all": image.symbols, "local": image.local_symbols, "defined": image.defined_symbols,
               "undefined": image.undefined_symbols}
     for word, symbols in groups.items():
-        yield word + "".join(" " + name_of(image, symbol) for symbol in symbols)
+        yield word + "".join(" " + name_of(symbol) for symbol in symbols)
     for index, value in enumerate(image.indirects):
         is_index = value & (oracle.INDIRECT_SYMBOL_LOCAL | oracle.INDIRECT_SYMBOL_ABS) == 0
-        name = name_of(image, image.symbols[value]) if is_index else "none"
+        name = name_of(image.symbols[value]) if is_index else "none"
         yield f"indirect {value:#x} at {image.dysymtab.indirectsymoff + 4 * index:#x} {name}"
 
 
@@ -308,7 +308,9 @@ def compare_reads(report, all_kinds):
 
 def compare_mixed(report, mixed):
     """For a slice that is not read there is nothing but the slice, and for a bare header no line but these."""
-    unread, bare = kesvuot.verify(mixed).slices
+    file = kesvuot.verify(mixed)
+    unread, bare = file.slices
+    report.case("the slices that are not read", file.unread_slices, (unread,))
     report.case("a slice that is not read", (type(unread), unread.place, unread.bytes.tobytes(), unread.arch),
                 (kesvuot.Slice, 64, oracle.MH_MAGIC, "0x7/0x3"))
     report.case("the slice beside it", (bare.place, list(reads(kesvuot.verify(mixed), 1, []))),
@@ -335,7 +337,10 @@ def place_text(file, index, address):
 
 
 def as_bytes(row):
-    return tuple(value.tobytes() if isinstance(value, memoryview) else value for value in row)
+    """The values of a row, without the strings of a symbol."""
+    return tuple(value.tobytes() if isinstance(value, memoryview) else
+                 as_bytes(value) if isinstance(value, tuple) else value
+                 for value in row if not isinstance(value, kesvuot.Strings))
 
 
 def string_at(data, place, end):
@@ -438,7 +443,7 @@ def wanted_blobs(image):
 
 
 def found_blobs(image):
-    for blob in image.blobs():
+    for blob in image.blobs:
         directory = blob.code_directory()
         yield (as_bytes(blob), directory and as_bytes(directory), directory and directory.digest(),
                directory and directory.cdhash())
@@ -545,13 +550,13 @@ def compare_image(found, wanted):
     yield "dynamic_linker", linker, wanted_paths(wanted, LC_LOAD_DYLINKER)[:1]
     for section, it in zip(found.sections, wanted.sections):
         yield "relocations", list(found.relocations(section)), list(wanted_relocations(wanted, it))
-    yield "function_starts", list(found.function_starts()), list(wanted_starts(wanted))
-    yield "data_in_code", list(map(as_bytes, found.data_in_code())), list(wanted_data_in_code(wanted))
+    yield "function_starts", list(found.function_starts), list(wanted_starts(wanted))
+    yield "data_in_code", list(map(as_bytes, found.data_in_code)), list(wanted_data_in_code(wanted))
     yield from compare_signature(found, wanted)
     for table, fields in zip(kesvuot.BoundedTable, BOUNDED_TABLES):
         part = found.table(table)
         yield f"table {table.name}", None if part is None else part.tobytes(), wanted_table(wanted, *fields)
-    yield "names", [found.name(symbol).tobytes() for symbol in found.symbols], list(wanted_names(wanted))
+    yield "names", [symbol.name.tobytes() for symbol in found.symbols], list(wanted_names(wanted))
     yield "symbols with names", list(map(as_bytes, found.symbols_with_names)), list(
         zip(wanted_symbols(wanted), wanted_names(wanted)))
     yield "id", found.id and as_bytes(found.id), next(wanted_libraries(wanted, True), None)
@@ -775,10 +780,10 @@ def all_parts(file):
         yield image.bytes
         for rows in (image.commands, image.segments, image.sections, image.libraries, image.symbols):
             yield from (value for row in rows for value in row if isinstance(value, memoryview))
-        yield from map(image.name, image.symbols)
+        yield from (symbol.name for symbol in image.symbols)
         yield from filter(None, (image.linkedit(command.cmd) for command in image.commands))
         yield from (image.at(segment.vmaddr).bytes for segment in image.segments)
-        for blob in image.blobs():
+        for blob in image.blobs:
             yield blob.bytes
             yield from (value for value in blob.code_directory() or () if isinstance(value, memoryview))
 
@@ -984,6 +989,50 @@ def judge_sources(report, data):
         "<kesvuot.Source file, 3008 bytes>", "<kesvuot.Source zero, 0 bytes>", "<kesvuot.Source unmapped, 0 bytes>"])
 
 
+def with_symbol(flags, kind, desc, value):
+    """The first symbol of an executable of these flags of the header, of LC_SYMTAB, of a symbol of this type,
+    description and value, and of the strings `_a` from 1 and `_b` from 4 on."""
+    data = struct.pack("<14I", 0xFEEDFACF, 0x01000007, 3, 2, 1, 24, flags, 0, 2, 24, 56, 1, 72, 7)
+    data += struct.pack("<IBBHQ", 1, kind, 0, desc, value) + b"\0_a\0_b\0"
+    return kesvuot.verify(data).images[0].symbols[0]
+
+
+def properties_of(symbol):
+    return (symbol.kind.value, symbol.is_external, symbol.is_private, symbol.is_weak_reference,
+            symbol.is_weak_definition, symbol.is_alternate_entry)
+
+
+def judge_kinds_of_symbols(report, data):
+    """What the bits of each type say, with each bit of the description that is not a part of an ordinal."""
+    kinds = "undefined absolute other other other indirect prebound section".split()
+    strings = kesvuot.verify(data).images[0].symbols[0].strings
+
+    def pairs():
+        for kind, desc in itertools.product(range(256), (0, N_WEAK_REF, N_WEAK_DEF, N_ALT_ENTRY)):
+            is_plain_, word = kind < 0x20, kinds[kind >> 1 & 7] if kind < 0x20 else "debugging"
+            yield f"{kind:#x} {desc:#x}", properties_of(kesvuot.Symbol(0, 0, desc, kind, 0, None, strings)), (
+                word, is_plain_ and kind & 1 != 0, is_plain_ and kind & 16 != 0,
+                word in ("undefined", "prebound") and desc == N_WEAK_REF,
+                word in ("absolute", "section", "indirect") and desc == N_WEAK_DEF,
+                word == "section" and desc == N_ALT_ENTRY)
+
+    report.alike("the kinds of symbols", "types", pairs())
+    library = kesvuot.SymbolLibrary
+    for flags, kind, desc, value, wanted in (
+            (MH_TWOLEVEL, 1, 0, 0, library.THIS_IMAGE), (MH_TWOLEVEL, 1, 1 << 8 | N_WEAK_REF, 0, 0),
+            (MH_TWOLEVEL, 0xD, 0xFD << 8, 5, 0xFC), (MH_TWOLEVEL, 1, 0xFE << 8, 0, library.DYNAMIC_LOOKUP),
+            (MH_TWOLEVEL, 1, 0xFF << 8, 0, library.EXECUTABLE), (MH_TWOLEVEL, 1, 1 << 8, 5, None),
+            (MH_TWOLEVEL, 3, 1 << 8, 0, None), (MH_TWOLEVEL, 0x20, 1 << 8, 0, None), (0, 1, 1 << 8, 0, None)):
+        report.case(f"the library of a symbol: {flags:#x} {kind:#x} {desc:#x} {value}",
+                    with_symbol(flags, kind, desc, value).library, wanted)
+    for kind, value, wanted in ((0xB, 4, b"_b"), (0xA, 5, b"b"), (0xA, 0, b""), (0xA, 7, b""), (0xA, 1 << 32 | 4, b""),
+                                (0x2, 4, None)):
+        symbol = with_symbol(0, kind, 0, value)
+        report.case(f"the names of a symbol: {kind:#x} {value:#x}",
+                    (symbol.name.tobytes(), symbol.other_name if wanted is None else symbol.other_name.tobytes()),
+                    (b"_a", wanted))
+
+
 def judge_texts_of_rows(report, data):
     """What `print` shows of rows: names as they are, and of other bytes how many there are."""
     image = kesvuot.verify(data).images[0]
@@ -999,7 +1048,8 @@ def judge_texts_of_rows(report, data):
     command = next(command for command in image.commands if command.cmd == LC_LOAD_DYLINKER)
     report.case("a command", str(command),
                 f"Command(bytes=<{len(command.bytes)} bytes>, name=b'/usr/lib/dyld', place={command.place}, cmd=14)")
-    report.case("a symbol", str(image.symbols[0]).split(", desc=")[0] + ")", "Symbol(value=4294968384, strx=2)")
+    report.case("a symbol", str(image.symbols[0]).split(", desc=")[0] + ")",
+                "Symbol(name=b'_start', value=4294968384, strx=2)")
     report.case("an export", str(image.find_export("_start")),
                 "Export(flags=0, address=4294968384, resolver=None, ordinal=None, name=None)")
 
@@ -1058,6 +1108,21 @@ def judge_walked_tables(report):
     report.case("a table is read once", image.commands is table, True)
 
 
+def judge_uncounted_tables(report):
+    """A table whose length nothing says, near the ends of batches: it is one as the others. And a walk begins anew."""
+    batch = kesvuot._rows.BATCH  # pylint: disable=protected-access
+    for count in (1, batch - 1, batch, batch + 1, 2 * batch + 5):
+        image = kesvuot.verify(made(f"starts-{count}")).images[0]
+        starts = image.function_starts
+        wanted = [starts[0] + 16 * index for index in range(count)]
+        report.case(f"{count} functions", (len(starts), list(starts) == wanted, list(reversed(starts)) == wanted[::-1]),
+                    (count, True, True))
+        report.case(f"{count} functions: a part", list(starts[-5::2]), wanted[-5::2])
+        report.case(f"{count} functions are read once", image.function_starts is starts, True)
+    exports = kesvuot.verify(made("exports-10")).images[0].exports
+    report.case("a walk again", (len(list(exports)), list(exports) == list(exports)), (10, True))
+
+
 # Opcodes
 
 
@@ -1073,20 +1138,20 @@ def judge_slots(report):
     """An opcode of each kind, by hand."""
     rebase = "11 2108 52 3008 41 6002 7010 800208 51 00"
     report.case("rebases, by hand", [(it.address - images.FAR, it.segment, it.kind)
-                                     for it in with_streams(rebase=rebase).rebases()],
+                                     for it in with_streams(rebase=rebase).rebases],
                 [(offset, 1, 1) for offset in (8, 16, 40, 48, 56, 80, 96, 112)])
     bind = "11 405f6100 51 7108 90 607e a008 b1 2000 3e 495f6200 c00208 80f8ffffffffffffffff01 90 00"
     wanted = [(8, b"_a", 1, 0, 0), (16, b"_a", 1, -2, 0), (32, b"_a", 1, -2, 0), (48, b"_b", -2, -2, 9),
               (64, b"_b", -2, -2, 9), (72, b"_b", -2, -2, 9)]
-    report.case("binds, by hand", slots_of(with_streams(bind=bind).binds()), wanted)
-    report.case("the same as weak binds", slots_of(with_streams(weak=bind).weak_binds()), wanted)
+    report.case("binds, by hand", slots_of(with_streams(bind=bind).binds), wanted)
+    report.case("the same as weak binds", slots_of(with_streams(weak=bind).weak_binds), wanted)
     lazy = "7110 11 6005 425f6100 90 00 7118 405f6300 51 90 00 00"
     report.case("lazy binds, by hand", [(it.address - images.FAR, *it[1:3], it.name.tobytes(), *it[4:])
-                                        for it in with_streams(lazy=lazy).lazy_binds()],
+                                        for it in with_streams(lazy=lazy).lazy_binds],
                 [(16, 1, 0, b"_a", 1, 5, 2), (24, 1, 1, b"_c", 0, 0, 0)])
-    report.case("what is shown of a bind", str(next(with_streams(lazy=lazy).lazy_binds())),
+    report.case("what is shown of a bind", str(next(iter(with_streams(lazy=lazy).lazy_binds))),
                 f"Bind(address={images.FAR + 16}, segment=1, kind=0, name=b'_a', ordinal=1, addend=5, flags=2)")
-    report.case("an image without opcodes", [list(slots()) for slots in slots_of_all(with_streams())], [[], [], [], []])
+    report.case("an image without opcodes", [list(slots) for slots in slots_of_all(with_streams())], [[], [], [], []])
 
 
 def slots_of(binds):
@@ -1101,7 +1166,7 @@ def fault_of(slots):
     """How many slots are found, and what ends them."""
     count = 0
     try:
-        for _ in slots():
+        for _ in slots:
             count += 1
     except kesvuot.OpcodeError as error:
         return count, str(error)
@@ -1123,7 +1188,7 @@ def judge_bad_opcodes(report):
             ("a number at the end", "3080", 0, "a number does not end", 0),
             ("a number of eleven bytes", f"30{'80' * 10}00", 0, "a number does not end", 0),
             ("a number of 65 bits", f"30{'80' * 9}02", 0, "a number is 2^64 or more", 0)):
-        check_fault(report, name, with_streams(rebase=words).rebases, count, reason, place)
+        check_fault(report, name, with_streams(rebase=words), "rebases", count, reason, place)
     for name, words, count, reason, place in (
             ("an opcode of a bind", "11 d0", 0, "the opcode is not known", 1),
             ("no name", "7100 90", 0, "no name is set", 2),
@@ -1134,8 +1199,8 @@ def judge_bad_opcodes(report):
             ("an addend", f"60{'ff' * 9}01", 0, "a number is not of 64 bits", 0),
             ("a slot of a bind", "405f6100 7100 90 c00120 71f801 a000 90", 3,
              "a slot is not in the file bytes of the segment", 15)):
-        check_fault(report, name, with_streams(bind=words).binds, count, reason, place)
-    check_fault(report, "a name after DONE", with_streams(lazy="405f6100 7100 90 00 7108 90").lazy_binds, 1,
+        check_fault(report, name, with_streams(bind=words), "binds", count, reason, place)
+    check_fault(report, "a name after DONE", with_streams(lazy="405f6100 7100 90 00 7108 90"), "lazy_binds", 1,
                 "no name is set", 10)
     refused = kesvuot.OpcodeError("why", 0x1F)
     again = pickle.loads(pickle.dumps(refused))
@@ -1143,12 +1208,12 @@ def judge_bad_opcodes(report):
                 (kesvuot.OpcodeError, "why", 0x1F, "why at 0x1f"))
 
 
-def check_fault(report, name, slots, count, reason, place):
+def check_fault(report, name, image, slots, count, reason, place):
     """The first command of LC_DYLD_INFO_ONLY has the starts of all streams. One of them has bytes."""
-    info = next(it for it in slots.__self__.commands if it.cmd == images.LC_DYLD_INFO_ONLY)
+    info = next(it for it in image.commands if it.cmd == images.LC_DYLD_INFO_ONLY)
     start = struct.unpack_from("<I", info.bytes, 8)[0]
     wanted = count, f"{reason} at {start + place:#x}"
-    report.case(f"an opcode that cannot be followed: {name}", fault_of(slots), wanted)
+    report.case(f"an opcode that cannot be followed: {name}", fault_of(getattr(image, slots)), wanted)
 
 
 def with_data(count):
@@ -1173,7 +1238,7 @@ def judge_last_segment(report):
     faults = [fault_of(with_data(count).rebases)[1].split(" at ")[0] for count in (13, 14, 15)]
     report.case("a slot in segment 15", faults,
                 ["the segment is not there", "a slot is not in the file bytes of the segment", "all"])
-    report.case("its address", [it.address - images.FAR for it in with_data(15).rebases()], [14 * images.PAGE])
+    report.case("its address", [it.address - images.FAR for it in with_data(15).rebases], [14 * images.PAGE])
 
 
 def judge_much(report):
@@ -1184,9 +1249,9 @@ def judge_much(report):
     report.case("slots without end", (count <= len(image.bytes) // 8 < 8 * again, said.split(" at ")[0]),
                 (True, "there are more slots than pointers in the file"))
     image = kesvuot.verify(made("binds-100000")).images[0]
-    report.case("the first of many binds", slots_of([next(image.binds())]), [(0, b"_symbol_0000000", 1, 0, 0)])
+    report.case("the first of many binds", slots_of([next(iter(image.binds))]), [(0, b"_symbol_0000000", 1, 0, 0)])
     tracemalloc.start()
-    report.case("many binds", sum(1 for _ in image.binds()), 100_000)
+    report.case("many binds", sum(1 for _ in image.binds), 100_000)
     report.case("the memory for many binds", tracemalloc.get_traced_memory()[1] < 19 * 100_000 + 100_000, True)
     tracemalloc.stop()
 
@@ -1225,9 +1290,9 @@ def compare_streams(report, name, files, least):
 
 def given_slots(data):
     for image in kesvuot.verify(data).images:
-        yield from ((it.address, None, None, None, None) for it in image.rebases())
+        yield from ((it.address, None, None, None, None) for it in image.rebases)
         for slots in (image.binds, image.weak_binds, image.lazy_binds):
-            yield from ((it.address, it.ordinal, it.name.tobytes(), it.addend, it.flags) for it in slots())
+            yield from ((it.address, it.ordinal, it.name.tobytes(), it.addend, it.flags) for it in slots)
 
 
 def dyld_slots(data):
@@ -1334,6 +1399,7 @@ def main(words):
     judge_lives(report, program)
     judge_exceptions(report, program)
     judge_sections_of_symbols(report)
+    judge_kinds_of_symbols(report, program)
     judge_numbers(report, program)
     judge_lookups(report, program)
     judge_names_of_numbers(report)
@@ -1343,6 +1409,7 @@ def main(words):
     judge_texts_of_rows(report, program)
     judge_tables(report)
     judge_walked_tables(report)
+    judge_uncounted_tables(report)
     judge_slots(report)
     judge_bad_opcodes(report)
     judge_last_segment(report)

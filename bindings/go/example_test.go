@@ -31,6 +31,22 @@ func ExampleVerify() {
 	// __LINKEDIT has 240 bytes
 }
 
+func ExampleImage_LibraryOf() {
+	file, err := kesvuot.VerifyFile("../../tests/real/program", kesvuot.Linked)
+	if err != nil {
+		fmt.Println(err)
+		return
+	}
+	for _, image := range file.Images() {
+		for _, symbol := range image.UndefinedSymbols() {
+			if library, ok := image.LibraryOf(symbol); ok && library >= 0 {
+				fmt.Printf("%s is of %s\n", image.Name(symbol), image.Libraries()[library].Name)
+			}
+		}
+	}
+	// Output: _step is of /usr/lib/libdemo.dylib
+}
+
 func ExampleRefused() {
 	_, err := kesvuot.Verify([]byte("no image"), kesvuot.Strict)
 	fmt.Println(err)

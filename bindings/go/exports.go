@@ -1,6 +1,7 @@
 package kesvuot
 
-// Exports iterates over what an image exports, in the order in which a walk over the export trie meets it.
+// Exports iterates over what an image exports, in the order in which a walk over the export trie meets it. The tables are
+// slices, but the names of exports can be together far longer than the file.
 //
 //	for exports := image.Exports(); exports.Next(); {
 //		name, export := exports.Name(), exports.Export()

@@ -283,6 +283,21 @@ func readTable[Row any](image *Image, table table, count C.uint64_t) []Row {
 	return readRows[Row](image, table, new(cursor), uint64(count))
 }
 
+// How many rows are read at once, where nothing says how many there are. Batches of any size cost the same.
+const batch = 256
+
+// readUncounted returns all rows of a table whose length nothing says.
+func readUncounted[Row any](image *Image, table table) (all []Row) {
+	var cursor cursor
+	for {
+		rows := readRows[Row](image, table, &cursor, batch)
+		all = append(all, rows...)
+		if len(rows) < batch {
+			return all
+		}
+	}
+}
+
 // symbolCursor returns the cursor of the symbol with this index.
 func symbolCursor(index uint64) cursor { return cursor{items: C.uint64_t(index)} }
 
@@ -293,22 +308,12 @@ func readName(image *Image, strx uint32) []byte {
 	return partOf(image.file, name)
 }
 
-// The most bytes of strings in which names are looked for at once. One name is looked up in any case.
-const mostBytes = 1 << 28
-
-// readNames returns the names of the first of these symbols: of all, or of few if the strings are long.
-func readNames(image *Image, rows []symbolRow) []span {
-	most := mostBytes / (uint64(image.numbers.strings_size) + 1)
-	if most == 0 {
-		most = 1
+// readNames returns where the names of symbols are. There is at least one symbol.
+func readNames(image *Image, symbols []Symbol) []span {
+	rows, names := make([]symbolRow, len(symbols)), make([]span, len(symbols))
+	for index, symbol := range symbols {
+		rows[index].strx = C.uint32_t(symbol.Strx)
 	}
-	if uint64(len(rows)) > most {
-		rows = rows[:most]
-	}
-	if len(rows) == 0 {
-		return nil
-	}
-	names := make([]span, len(rows))
 	C.kesvuot_read_names(unsafe.Pointer(&image.file[0]), C.size_t(len(image.file)), &image.numbers, &rows[0],
 		C.size_t(len(rows)), &names[0], C.size_t(len(names)))
 	return names

@@ -8,7 +8,7 @@ import (
 // An Image is a 64-bit image of an accepted file. Offsets count from the start of the image, but Place from the start
 // of the file. Addresses are those before any slide.
 //
-// Symbols are found by their index. Each other table is read as a whole by each call: keep what it returns.
+// Each call for a table reads the whole table: keep what it returns. A Symbol is also found by its index.
 type Image struct {
 	// Bytes are those of the image.
 	Bytes []byte
@@ -43,6 +43,9 @@ func newImage(file []byte, slice Slice, numbers *numbers) *Image {
 }
 
 func (image *Image) has(part uint32) bool { return uint32(image.numbers.has)&part != 0 }
+
+// Arch returns the name of the architecture, such as "arm64e", as ArchName has it.
+func (image *Image) Arch() string { return ArchName(image.CPUType, image.CPUSubtype) }
 
 // A UUID is that of an LC_UUID.
 type UUID [16]byte
@@ -221,7 +224,7 @@ func (image *Image) Table(table Table) (bytes []byte, ok bool) {
 }
 
 // SourceVersion returns the version A.B.C.D.E of the sources, by the first LC_SOURCE_VERSION of at least 16 bytes. It
-// is not ok if there is none.
+// is not ok if there is no such symbol.
 func (image *Image) SourceVersion() (version [5]uint32, ok bool) {
 	number, ok := readSourceVersion(image)
 	version[0] = uint32(number >> 40)
@@ -236,7 +239,7 @@ func (image *Image) RunPaths() [][]byte {
 	return image.namesOf(0x8000001c)
 }
 
-// DynamicLinker returns the path of the first LC_LOAD_DYLINKER. It is not ok if there is none.
+// DynamicLinker returns the path of the first LC_LOAD_DYLINKER. It is not ok if there is no such symbol.
 func (image *Image) DynamicLinker() (path []byte, ok bool) {
 	paths := image.namesOf(0xe)
 	if len(paths) == 0 {

@@ -9,6 +9,7 @@ import (
 	"os"
 	"path/filepath"
 	"reflect"
+	"runtime"
 	"strings"
 	"sync"
 	"syscall"
@@ -283,17 +284,9 @@ func compareSections(t *testing.T, image *Image, plain *macho.File) {
 	}
 }
 
-func collect(symbols *Symbols) []Symbol {
-	found := []Symbol{}
-	for symbols.Next() {
-		found = append(found, symbols.Symbol())
-	}
-	return found
-}
-
 func compareSymbols(t *testing.T, image *Image, plain *macho.File) {
 	t.Helper()
-	symbols := collect(image.Symbols())
+	symbols := image.Symbols()
 	found := []macho.Symbol{}
 	for index, symbol := range symbols {
 		found = append(found, macho.Symbol{
@@ -303,21 +296,16 @@ func compareSymbols(t *testing.T, image *Image, plain *macho.File) {
 		same(t, "of it", ok, true)
 	}
 	same(t, "the symbols", found, plain.Symtab.Syms)
-	named := image.Symbols()
-	for index := 0; named.Next(); index++ {
-		// A name that nobody asks for is skipped.
-		if index%3 != 1 {
-			same(t, "a name", string(named.Name()), found[index].Name)
-			same(t, "it again", string(named.Name()), found[index].Name)
-		}
+	for index, name := range image.Names(symbols) {
+		same(t, "a name", string(name), found[index].Name)
 	}
 	dysymtab := plain.Dysymtab
 	same(t, "the indirect entries",
 		append([]uint32{}, image.Indirects()...), append([]uint32{}, dysymtab.IndirectSyms...))
 	group := func(first, count uint32) []Symbol { return symbols[first:][:count] }
-	same(t, "local symbols", collect(image.LocalSymbols()), group(dysymtab.Ilocalsym, dysymtab.Nlocalsym))
-	same(t, "defined symbols", collect(image.DefinedSymbols()), group(dysymtab.Iextdefsym, dysymtab.Nextdefsym))
-	same(t, "undefined symbols", collect(image.UndefinedSymbols()), group(dysymtab.Iundefsym, dysymtab.Nundefsym))
+	same(t, "local symbols", image.LocalSymbols(), group(dysymtab.Ilocalsym, dysymtab.Nlocalsym))
+	same(t, "defined symbols", image.DefinedSymbols(), group(dysymtab.Iextdefsym, dysymtab.Nextdefsym))
+	same(t, "undefined symbols", image.UndefinedSymbols(), group(dysymtab.Iundefsym, dysymtab.Nundefsym))
 }
 
 // The header, by the texts beside the real program.
@@ -370,6 +358,10 @@ func TestFilesByTheirPaths(t *testing.T) {
 	same(t, "no profile", err, ErrProfile)
 	_, err = VerifyFile(none, Layout)
 	same(t, "no file", errors.Is(err, os.ErrNotExist), true)
+	for _, limit := range []int64{8, 1 << 20} {
+		data, err := readFile(text, limit)
+		same(t, "a file of as many bytes", []any{string(data), err}, []any{"no image", error(nil)})
+	}
 	_, err = readFile(text, 7)
 	same(t, "a long file", err.Error(), "read "+text+": more than 7 bytes")
 	pipe := filepath.Join(folder, "pipe")
@@ -379,6 +371,22 @@ func TestFilesByTheirPaths(t *testing.T) {
 	for _, path := range []string{folder, pipe, os.DevNull} {
 		_, err = VerifyFile(path, Layout)
 		same(t, path, err.Error(), "read "+path+": not a regular file")
+	}
+}
+
+// A file is read into memory that is made once.
+func TestMemoryOfAFile(t *testing.T) {
+	path := filepath.Join(t.TempDir(), "zeros")
+	if err := os.WriteFile(path, make([]byte, 1<<24), 0o600); err != nil {
+		t.Fatal(err)
+	}
+	var before, after runtime.MemStats
+	runtime.ReadMemStats(&before)
+	data, err := readFile(path, limit)
+	runtime.ReadMemStats(&after)
+	same(t, "a file of zeros", []any{len(data), err}, []any{1 << 24, error(nil)})
+	if made := after.TotalAlloc - before.TotalAlloc; made > 1<<24+1<<16 {
+		t.Errorf("%d bytes of memory for a file of %d", made, len(data))
 	}
 }
 
@@ -396,7 +404,7 @@ func nearest(symbols []Symbol, address uint64) (found Symbol, ok bool) {
 
 func compareLookups(t *testing.T, image *Image) {
 	t.Helper()
-	symbols := collect(image.Symbols())
+	symbols := image.Symbols()
 	for _, symbol := range symbols {
 		for _, address := range []uint64{symbol.Value - 1, symbol.Value, symbol.Value + 1} {
 			found, ok := image.SymbolAt(address)
@@ -552,11 +560,81 @@ func TestSectionsOfSymbols(t *testing.T) {
 	image := verified(t, withSections(symbols...)).Images()[0]
 	same(t, "how many sections", len(image.Sections()), 2)
 	var found []int
-	for index, symbol := range collect(image.Symbols()) {
+	for index, symbol := range image.Symbols() {
 		same(t, "a symbol", [2]uint8{symbol.Type, symbol.Sect}, symbols[index])
 		found = append(found, symbol.Section)
 	}
 	same(t, "the sections", found, wanted)
+}
+
+// An executable of these flags of the header, of LC_SYMTAB, of a symbol of this type, description and value, and of
+// the strings "_a" from 1 and "_b" from 4 on.
+func withSymbol(flags uint32, kind uint8, desc uint16, value uint64) []byte {
+	file := words(0xfeedfacf, 0x01000007, 3, 2, 1, 24, flags, 0, 2, 24, 56, 1, 72, 7, 1)
+	file = append(file, kind, 0, byte(desc), byte(desc>>8))
+	return append(append(file, words(uint32(value), uint32(value>>32))...), "\x00_a\x00_b\x00"...)
+}
+
+func TestKindsOfSymbols(t *testing.T) {
+	kinds := "undefined absolute other other other indirect prebound section"
+	for kind := 0; kind < 256; kind++ {
+		// Each bit that is not a part of a library's ordinal, and none of them.
+		for _, desc := range []uint16{0, N_WEAK_REF, N_WEAK_DEF, N_ALT_ENTRY} {
+			symbol := Symbol{Type: uint8(kind), Desc: desc}
+			word, isDebugging := strings.Fields(kinds)[kind>>1&7], kind >= 0x20
+			isUndefined := word == "undefined" || word == "prebound"
+			isDefined := word == "absolute" || word == "section" || word == "indirect"
+			if isDebugging {
+				word, isUndefined, isDefined = "debugging", false, false
+			}
+			same(t, fmt.Sprintf("a symbol of the type %#x with %#x", kind, desc), fmt.Sprintln(
+				symbol.Kind(), symbol.IsExternal(), symbol.IsPrivate(), symbol.IsWeakReference(),
+				symbol.IsWeakDefinition(), symbol.IsAlternateEntry(),
+			), fmt.Sprintln(
+				word, kind&1 != 0 && !isDebugging, kind&16 != 0 && !isDebugging, isUndefined && desc == N_WEAK_REF,
+				isDefined && desc == N_WEAK_DEF, word == "section" && desc == N_ALT_ENTRY))
+		}
+	}
+}
+
+func TestLibrariesOfSymbols(t *testing.T) {
+	for _, trial := range []struct {
+		flags   uint32
+		kind    uint8
+		desc    uint16
+		value   uint64
+		library SymbolLibrary
+		ok      bool
+	}{
+		{MH_TWOLEVEL, N_UNDF | N_EXT, 0, 0, ThisImage, true},
+		{MH_TWOLEVEL, N_UNDF | N_EXT, 1<<8 | N_WEAK_REF, 0, 0, true},
+		{MH_TWOLEVEL, N_PBUD | N_EXT, 0xfd << 8, 5, 0xfc, true},
+		{MH_TWOLEVEL, N_UNDF | N_EXT, 0xfe << 8, 0, DynamicLookup, true},
+		{MH_TWOLEVEL, N_UNDF | N_EXT, 0xff << 8, 0, Executable, true},
+		{MH_TWOLEVEL, N_UNDF | N_EXT, 1 << 8, 5, 0, false},
+		{MH_TWOLEVEL, N_ABS | N_EXT, 1 << 8, 0, 0, false},
+		{MH_TWOLEVEL, 0x20, 1 << 8, 0, 0, false},
+		{0, N_UNDF | N_EXT, 1 << 8, 0, 0, false},
+	} {
+		image := verified(t, withSymbol(trial.flags, trial.kind, trial.desc, trial.value)).Images()[0]
+		library, ok := image.LibraryOf(image.Symbols()[0])
+		same(t, fmt.Sprintf("the library of %v", trial), []any{library, ok}, []any{trial.library, trial.ok})
+	}
+}
+
+func TestOtherNames(t *testing.T) {
+	for _, trial := range []struct {
+		kind  uint8
+		value uint64
+		name  string
+	}{
+		{N_INDR | N_EXT, 4, "_b"}, {N_INDR, 5, "b"}, {N_INDR, 0, ""}, {N_INDR, 7, ""}, {N_INDR, 1<<32 + 4, ""}, {N_ABS, 4, ""},
+	} {
+		image := verified(t, withSymbol(0, trial.kind, 0, trial.value)).Images()[0]
+		symbol := image.Symbols()[0]
+		same(t, fmt.Sprintf("the names of %v", trial), []string{string(image.Name(symbol)), string(image.OtherName(symbol))},
+			[]string{"_a", trial.name})
+	}
 }
 
 // An executable of commands that rules/layout.md does not list, and one of them is too short.
@@ -614,11 +692,7 @@ func TestCode(t *testing.T) {
 	numbers := []byte{0xc0, 0x08, 0x10, 0xff, 0x7f, 0, 5}
 	entries := append(words(136, 7|5<<16, 8, 0xffff|1<<16), 1, 2, 3)
 	image := verified(t, withCode(numbers, entries)).Images()[0]
-	var starts []uint64
-	for found := image.FunctionStarts(); found.Next(); {
-		starts = append(starts, found.Address())
-	}
-	same(t, "the functions", starts, []uint64{0x100000440, 0x100000450, 0x10000444f})
+	same(t, "the functions", image.FunctionStarts(), []uint64{0x100000440, 0x100000450, 0x10000444f})
 	data := image.DataInCode()
 	same(t, "how many entries", len(data), 2)
 	same(t, "the data", string(data[0].Bytes), string(numbers))
@@ -627,13 +701,11 @@ func TestCode(t *testing.T) {
 	same(t, "data past the image", []uint32{uint32(len(data[1].Bytes)), uint32(data[1].Length)}, []uint32{0, 0xffff})
 	for _, count := range []int{0, batch - 1, batch, batch + 1, 2 * batch} {
 		image = verified(t, withCode(bytes.Repeat([]byte{1}, count), make([]byte, 8*count))).Images()[0]
-		found := image.FunctionStarts()
-		for index := 1; index <= count; index++ {
-			same(t, "whether there is another", found.Next(), true)
-			same(t, "it", found.Address(), uint64(0x100000000+index))
+		starts := image.FunctionStarts()
+		same(t, "how many functions and entries", []int{len(starts), len(image.DataInCode())}, []int{count, count})
+		for index, start := range starts {
+			same(t, "a function", start, uint64(0x100000001+index))
 		}
-		same(t, "the end", []bool{found.Next(), found.Next()}, []bool{false, false})
-		same(t, "how many entries", len(image.DataInCode()), count)
 	}
 }
 
@@ -726,14 +798,11 @@ func TestBatches(t *testing.T) {
 			symbols = append(symbols, [2]uint8{0, uint8(index)})
 		}
 		image := verified(t, withSections(symbols...)).Images()[0]
-		left := image.Symbols()
-		for index := 0; index < count; index++ {
-			same(t, "how many are left", left.Len(), count-index)
-			same(t, "whether there is another", left.Next(), true)
-			same(t, "it", left.Symbol().Sect, uint8(index))
-			same(t, "it has no name", len(left.Name()), 0)
+		found := image.Symbols()
+		same(t, "how many symbols and names", []int{len(found), len(image.Names(found))}, []int{count, count})
+		for index, symbol := range found {
+			same(t, "a symbol", symbol.Sect, uint8(index))
 		}
-		same(t, "the end", []bool{left.Next(), left.Next(), left.Len() == 0}, []bool{false, false, true})
 		_, ok := image.Symbol(uint64(count))
 		same(t, "a symbol past the last", ok, false)
 	}
@@ -747,7 +816,8 @@ func TestBareImage(t *testing.T) {
 	same(t, "what it has not",
 		[]bool{hasUUID, hasBase, hasEntry, image.Symtab() != nil, image.Dysymtab() != nil}, make([]bool, 5))
 	same(t, "its rows", len(image.Commands())+len(image.Segments())+len(image.Sections())+len(image.Libraries())+
-		len(image.Builds())+len(image.Indirects())+image.Symbols().Len()+image.LocalSymbols().Len(), 0)
+		len(image.Builds())+len(image.Indirects())+len(image.Symbols())+len(image.LocalSymbols())+len(image.FunctionStarts())+
+		len(image.DataInCode())+len(image.Blobs())+len(image.Names(nil)), 0)
 }
 
 // A universal file of a 32-bit image, which is not read, and of a header for x86_64.
@@ -762,8 +832,11 @@ func TestUnreadSlice(t *testing.T) {
 	same(t, "the images", len(universal.Images()), 1)
 	unread := universal.Slice(0)
 	same(t, "the image that is not read", unread.Image, (*Image)(nil))
-	same(t, "what it has", []any{unread.Place, unread.Bytes, unread.CPUType, unread.CPUSubtype},
-		[]any{uint64(64), words(0xfeedface), uint32(7), uint32(3)})
+	same(t, "what it has", []any{unread.Place, unread.Bytes, unread.CPUType, unread.CPUSubtype, unread.Arch()},
+		[]any{uint64(64), words(0xfeedface), uint32(7), uint32(3), "i386"})
+	same(t, "the slices that are not read", universal.UnreadSlices(), []Slice{unread})
+	same(t, "the architectures", []string{universal.Images()[0].Arch(), universal.Slices()[1].Arch()},
+		[]string{"x86_64", "x86_64"})
 	for _, index := range []int{-1, 2} {
 		func() {
 			defer func() { same(t, "no slice", recover() != nil, true) }()
@@ -786,7 +859,7 @@ func TestBytesBesidePointers(t *testing.T) {
 	same(t, "the layout", layout, string(readReal(t, "program.layout")))
 	same(t, "of it", err, nil)
 	image := file.Images()[0]
-	same(t, "the rows", len(image.Commands())+len(collect(image.Symbols())), 15+5)
+	same(t, "the rows", len(image.Commands())+len(image.Symbols()), 15+5)
 	same(t, "an address", image.At(0x100000440).Kind, FileBytes)
 }
 
@@ -803,7 +876,6 @@ func TestChangedBytes(t *testing.T) {
 		image.Builds()
 		image.Commands()
 		image.Indirects()
-		collect(image.Symbols())
 		image.At(0x100000440)
 		image.Linkedit(0x26)
 		image.Table(StringTable)
@@ -812,8 +884,8 @@ func TestChangedBytes(t *testing.T) {
 		image.DataInCode()
 		image.ThreadEntry()
 		image.FindExport("_start")
-		for starts := image.FunctionStarts(); starts.Next(); {
-		}
+		image.FunctionStarts()
+		image.Names(image.Symbols())
 	}
 }
 
@@ -833,7 +905,7 @@ func TestGoroutines(t *testing.T) {
 				}
 				layout, _ := file.Layout()
 				same(t, "the layout", layout, wanted)
-				same(t, "the symbols", len(collect(file.Images()[0].Symbols())), 5)
+				same(t, "the symbols", len(file.Images()[0].Symbols()), 5)
 			}
 		}()
 	}
@@ -879,7 +951,7 @@ func TestVectors(t *testing.T) {
 func readAll(t *testing.T, file *File) {
 	t.Helper()
 	for _, image := range file.Images() {
-		symbols := collect(image.Symbols())
+		symbols := image.Symbols()
 		same(t, "how many symbols", len(symbols), int(image.numbers.symbol_count))
 		compareTables(t, image)
 		sections := image.Sections()

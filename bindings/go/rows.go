@@ -190,206 +190,29 @@ type DataInCode struct {
 	Kind uint16
 }
 
-// An uncounted iterates over rows of a table whose length nothing says. It reads them in batches.
-type uncounted[Raw any] struct {
-	image  *Image
-	table  table
-	cursor cursor
-	held   []Raw
-	isLast bool
-}
-
-// next returns the next row. It is not ok if there is none.
-func (rows *uncounted[Raw]) next() (row *Raw, ok bool) {
-	if len(rows.held) == 0 && !rows.isLast {
-		rows.held = readRows[Raw](rows.image, rows.table, &rows.cursor, batch)
-		rows.isLast = len(rows.held) < batch
+// FunctionStarts returns the addresses of functions, before any slide, by the first LC_FUNCTION_STARTS. They ascend, and
+// end before a number 0 of its data, a number that does not end in it, and an address of 2^64 or more. There are none if
+// the image has no base. In a file that the linked profile accepts each is the address of a byte of the file. In any
+// other one can be in no segment.
+func (image *Image) FunctionStarts() []uint64 {
+	rows := readUncounted[functionStartRow](image, functionStartTable)
+	starts := make([]uint64, len(rows))
+	for index, row := range rows {
+		starts[index] = uint64(row)
 	}
-	if len(rows.held) == 0 {
-		return nil, false
-	}
-	row, rows.held = &rows.held[0], rows.held[1:]
-	return row, true
+	return starts
 }
-
-// FunctionStarts iterates over the addresses of functions, before any slide. It reads them in batches.
-//
-//	for starts := image.FunctionStarts(); starts.Next(); {
-//		address := starts.Address()
-//	}
-type FunctionStarts struct {
-	rows    uncounted[functionStartRow]
-	address uint64
-}
-
-// FunctionStarts iterates over the functions, by the first LC_FUNCTION_STARTS. Their addresses ascend.
-// They end before a number 0 of its data, a number that does not end in it, and an address of 2^64 or more. There are
-// none if the image has no base. In a file that the linked profile accepts each is the address of a byte of the file.
-// In any other one can be in no segment.
-func (image *Image) FunctionStarts() *FunctionStarts {
-	return &FunctionStarts{rows: uncounted[functionStartRow]{image: image, table: functionStartTable}}
-}
-
-// Next goes on to the next function. It returns false if there is none.
-func (starts *FunctionStarts) Next() bool {
-	row, ok := starts.rows.next()
-	if ok {
-		starts.address = uint64(*row)
-	}
-	return ok
-}
-
-// Address returns the address of the function that Next has gone on to.
-func (starts *FunctionStarts) Address() uint64 { return starts.address }
 
 // DataInCode returns the data in the code, by the whole entries of the first LC_DATA_IN_CODE, which can be in any order,
 // and overlap. In a file that the linked profile accepts the bytes of each are in one executable segment. In any other
 // they can be of no code.
 func (image *Image) DataInCode() []DataInCode {
-	var found []DataInCode
-	rows := uncounted[dataInCodeRow]{image: image, table: dataInCodeTable}
-	for row, ok := rows.next(); ok; row, ok = rows.next() {
-		found = append(found,
-			DataInCode{image.part(row.bytes), uint32(row.offset), uint16(row.length), uint16(row.kind)})
+	rows := readUncounted[dataInCodeRow](image, dataInCodeTable)
+	data := make([]DataInCode, len(rows))
+	for index, row := range rows {
+		data[index] = DataInCode{image.part(row.bytes), uint32(row.offset), uint16(row.length), uint16(row.kind)}
 	}
-	return found
-}
-
-// A Symbol is an nlist_64. Its name is Image.Name, or Symbols.Name in a loop.
-type Symbol struct {
-	Value uint64
-	// Strx is 0 if the symbol has no name.
-	Strx uint32
-	Desc uint16
-	// Type is n_type. Sect is n_sect, the number of a section, from 1 on. Do not subtract 1 from it: it is 0 (NO_SECT)
-	// if the symbol is in no section, and may be past the last section, such as in a debugging entry (N_STAB).
-	Type, Sect uint8
-	// Section is the index in Sections of the section with the number Sect, whatever the Type is, or -1 if there is none.
-	// The symbol is defined in that section only if its Type is N_SECT and it is no debugging entry (N_STAB): then this is
-	// always an index.
-	Section int
-}
-
-// Symbols iterates over symbols, in the order of the table. It reads them in batches.
-//
-//	for symbols := image.Symbols(); symbols.Next(); {
-//		symbol, name := symbols.Symbol(), symbols.Name()
-//	}
-type Symbols struct {
-	image *Image
-	// Where the symbols are that were not read, how many there are, and those that were read.
-	cursor cursor
-	left   uint64
-	held   []symbolRow
-	symbol Symbol
-	// The row of the symbol, with those that are held, and the first of their names that were read.
-	rows  []symbolRow
-	names []span
-}
-
-// How many symbols are read at once.
-const batch = 256
-
-// Symbols iterates over all symbols.
-func (image *Image) Symbols() *Symbols {
-	return image.symbols(0, uint64(image.numbers.symbol_count))
-}
-
-// Name returns the name of a symbol of this image. It is empty if Strx is 0. The call searches for the end of the name.
-// In a hostile file many symbols can share a long name: to look up all of them takes time in proportion to
-// Nsyms * Strsize. To list all in linear time, add up the lengths of the names, and stop when the sum is more than
-// 4 * Strsize.
-func (image *Image) Name(symbol Symbol) []byte { return readName(image, symbol.Strx) }
-
-// LocalSymbols iterates over the local symbols of LC_DYSYMTAB, none without it.
-func (image *Image) LocalSymbols() *Symbols { return image.group(0) }
-
-// DefinedSymbols iterates over the defined external symbols of LC_DYSYMTAB.
-func (image *Image) DefinedSymbols() *Symbols { return image.group(2) }
-
-// UndefinedSymbols iterates over the undefined symbols of LC_DYSYMTAB.
-func (image *Image) UndefinedSymbols() *Symbols { return image.group(4) }
-
-// group iterates over the group whose first index is here in the groups, and its count after it.
-func (image *Image) group(at int) *Symbols {
-	first, count := uint64(image.numbers.groups[at]), uint64(image.numbers.groups[at+1])
-	return image.symbols(first, count)
-}
-
-func (image *Image) symbols(first, count uint64) *Symbols {
-	return &Symbols{image: image, cursor: symbolCursor(first), left: count}
-}
-
-// Len returns how many symbols are left.
-func (symbols *Symbols) Len() int { return int(symbols.left) + len(symbols.held) }
-
-// Next goes on to the next symbol. It returns false if there is none.
-func (symbols *Symbols) Next() bool {
-	if len(symbols.held) == 0 {
-		count := symbols.left
-		if count > batch {
-			count = batch
-		}
-		symbols.held = readRows[symbolRow](symbols.image, symbolTable, &symbols.cursor, count)
-		symbols.left -= count
-	}
-	if len(symbols.held) == 0 {
-		return false
-	}
-	symbols.symbol = newSymbol(&symbols.held[0])
-	symbols.rows, symbols.held = symbols.held, symbols.held[1:]
-	if len(symbols.names) > 0 {
-		symbols.names = symbols.names[1:]
-	}
-	return true
-}
-
-// Symbol returns the symbol that Next has gone on to.
-func (symbols *Symbols) Symbol() Symbol { return symbols.symbol }
-
-// Name returns the name of the symbol that Next has gone on to, as Image.Name does. The names are looked up in batches:
-// a loop over all takes less time than Image.Name for each.
-func (symbols *Symbols) Name() []byte {
-	if len(symbols.names) == 0 {
-		symbols.names = readNames(symbols.image, symbols.rows)
-	}
-	if len(symbols.names) == 0 {
-		return nil
-	}
-	return symbols.image.part(symbols.names[0])
-}
-
-// Symbol returns the symbol with this index in the table. It is not ok if there is none.
-func (image *Image) Symbol(index uint64) (symbol Symbol, ok bool) {
-	cursor := symbolCursor(index)
-	rows := readRows[symbolRow](image, symbolTable, &cursor, 1)
-	if len(rows) == 0 {
-		return Symbol{Section: -1}, false
-	}
-	return newSymbol(&rows[0]), true
-}
-
-// SymbolAt returns the nearest symbol of a section at or before an address, before any slide, that is no debugging
-// entry; of several at one address the last in the table. It is not ok if no symbol begins at or before the address.
-// The symbol may be of another section than the address, or end before it: the format has no sizes of symbols. The
-// first call sorts the symbols, and keeps 4 bytes for each.
-func (image *Image) SymbolAt(address uint64) (symbol Symbol, ok bool) {
-	image.sorting.Do(func() { image.index = readIndex(image) })
-	row, ok := findSymbol(image, image.index, address)
-	if !ok {
-		return Symbol{Section: -1}, false
-	}
-	return newSymbol(&row), true
-}
-
-// SymbolNamed returns the first symbol in the table with this name that is no debugging entry. It need not be defined
-// in the image. It is not ok if there is none. Each call reads all symbols: for many names, read Symbols once.
-func (image *Image) SymbolNamed(name string) (symbol Symbol, ok bool) {
-	row, ok := findName(image, name)
-	if !ok {
-		return Symbol{Section: -1}, false
-	}
-	return newSymbol(&row), true
+	return data
 }
 
 // An Export is what an image offers to others under a name. Only the linked profile judges its fields.
@@ -427,21 +250,6 @@ func newExport(image *Image, row *exportRow) Export {
 		Resolver: uint64(row.resolver),
 		Ordinal:  uint64(row.ordinal),
 		Name:     image.part(row.name),
-	}
-}
-
-func newSymbol(row *symbolRow) Symbol {
-	section := -1
-	if row.section != noSection {
-		section = int(row.section)
-	}
-	return Symbol{
-		Value:   uint64(row.value),
-		Strx:    uint32(row.strx),
-		Desc:    uint16(row.desc),
-		Type:    uint8(row._type),
-		Sect:    uint8(row.sect),
-		Section: section,
 	}
 }
 

@@ -24,12 +24,12 @@ type Blob struct {
 //		}
 //	}
 func (image *Image) Blobs() []Blob {
-	var found []Blob
-	rows := uncounted[blobRow]{image: image, table: blobTable}
-	for row, ok := rows.next(); ok; row, ok = rows.next() {
-		found = append(found, Blob{image.part(row.bytes), uint32(row.slot), uint32(row.magic)})
+	rows := readUncounted[blobRow](image, blobTable)
+	blobs := make([]Blob, len(rows))
+	for index, row := range rows {
+		blobs[index] = Blob{image.part(row.bytes), uint32(row.slot), uint32(row.magic)}
 	}
-	return found
+	return blobs
 }
 
 // A CodeDirectory is a CS_CodeDirectory of <kern/cs_blobs.h>: what was signed, and the hashes of its pages. In a file

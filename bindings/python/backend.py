@@ -1,4 +1,9 @@
-"""Packs the package for pip (PEP 517). Nothing is compiled, and nothing has to be fetched first."""
+"""Packs the package for pip (PEP 517). Nothing is compiled, and nothing has to be fetched first.
+
+    python3 backend.py FOLDER LIBRARY NOTICE..
+
+writes a wheel that has the shared library and these notices into a folder, and prints its name: `make dist` calls it.
+"""
 
 from __future__ import annotations
 
@@ -6,17 +11,22 @@ import base64
 import hashlib
 import io
 import os
+import sys
 import tarfile
 import zipfile
 from email import message_from_string
 from pathlib import Path
-from typing import Any, Dict, Optional
+from typing import Any, Dict, Optional, Sequence
 
 METADATA = Path("METADATA")
 PACKAGE = sorted(path for pattern in ("*.py", "map.html", "py.typed") for path in Path("kesvuot").glob(pattern))
 # The command that pip installs.
 ENTRY_POINTS = b"[console_scripts]\nkesvuot = kesvuot.__main__:main\n"
-# The least time of a file in a zip archive. The same sources give the same wheel.
+# The systems that the library is for, as pip names them: x86-64 Linux with the C library of 2006 or a later one. Versions
+# of pip before 20.3 know the second name.
+LINUX = ("manylinux_2_5_x86_64", "manylinux1_x86_64")
+# The least time of a file in a zip archive. The same sources give the same wheel, and nothing is compressed, so any
+# Python writes the same bytes.
 TIME = (1980, 1, 1, 0, 0, 0)
 
 
@@ -31,23 +41,33 @@ def _line_of_record(name: str, content: bytes) -> str:
     return f"{name},sha256={digest},{len(content)}\n"
 
 
+def _write_wheel(folder: str, *systems: str, library: Optional[Path] = None, notices: Sequence[Path] = ()) -> str:
+    """Writes a wheel of the package for these systems. Returns its name."""
+    info, name = f"{_full_name()}.dist-info", f"{_full_name()}-py3-none-{'.'.join(systems)}.whl"
+    files = {path.as_posix(): path.read_bytes() for path in PACKAGE}
+    if library:
+        files[f"kesvuot/{library.name}"] = library.read_bytes()
+    files.update({f"{info}/licenses/{notice.name}": notice.read_bytes() for notice in notices})
+    files[f"{info}/METADATA"] = METADATA.read_bytes()
+    tags = "".join(f"Tag: py3-none-{system}\n" for system in systems)
+    files[f"{info}/WHEEL"] = (
+        f"Wheel-Version: 1.0\nGenerator: kesvuot\nRoot-Is-Purelib: {str(not library).lower()}\n{tags}").encode()
+    files[f"{info}/entry_points.txt"] = ENTRY_POINTS
+    record = f"{info}/RECORD"
+    files[record] = ("".join(map(_line_of_record, files, files.values())) + f"{record},,\n").encode()
+    with zipfile.ZipFile(os.path.join(folder, name), "w") as wheel:
+        for path, content in files.items():
+            entry = zipfile.ZipInfo(path, TIME)
+            entry.external_attr = 0o100644 << 16
+            wheel.writestr(entry, content)
+    return name
+
+
 def build_wheel(wheel_directory: str, config_settings: Optional[Dict[str, Any]] = None,
                 metadata_directory: Optional[str] = None) -> str:
     """The package, with what says that it is one. Returns the name of the wheel."""
     del config_settings, metadata_directory
-    info, name = f"{_full_name()}.dist-info", f"{_full_name()}-py3-none-any.whl"
-    files = {path.as_posix(): path.read_bytes() for path in PACKAGE}
-    files[f"{info}/METADATA"] = METADATA.read_bytes()
-    files[f"{info}/WHEEL"] = b"Wheel-Version: 1.0\nGenerator: kesvuot\nRoot-Is-Purelib: true\nTag: py3-none-any\n"
-    files[f"{info}/entry_points.txt"] = ENTRY_POINTS
-    record = f"{info}/RECORD"
-    files[record] = ("".join(map(_line_of_record, files, files.values())) + f"{record},,\n").encode()
-    with zipfile.ZipFile(os.path.join(wheel_directory, name), "w") as wheel:
-        for path, content in files.items():
-            entry = zipfile.ZipInfo(path, TIME)
-            entry.compress_type, entry.external_attr = zipfile.ZIP_DEFLATED, 0o100644 << 16
-            wheel.writestr(entry, content)
-    return name
+    return _write_wheel(wheel_directory, "any")
 
 
 def build_sdist(sdist_directory: str, config_settings: Optional[Dict[str, Any]] = None) -> str:
@@ -62,3 +82,8 @@ def build_sdist(sdist_directory: str, config_settings: Optional[Dict[str, Any]] 
             entry.size = len(content)
             archive.addfile(entry, io.BytesIO(content))
     return name
+
+
+if __name__ == "__main__":
+    target, shared, *texts = sys.argv[1:]
+    print(_write_wheel(target, *LINUX, library=Path(shared), notices=list(map(Path, texts))))

@@ -1,21 +1,28 @@
-//! Finds the library: in the folder `KESVUOT_LIB_DIR`, or else where pkg-config says.
+//! Finds the library: in the folder `KESVUOT_LIB_DIR`, or else where pkg-config says. `cargo check` and `cargo doc`
+//! need none, so where pkg-config does not find it, this says so, and leaves it to the linker.
 
 use std::path::Path;
 use std::process::{self, Command};
 use std::{env, fs, mem};
 
+const HOW: &str = "Install libkesvuot, or set KESVUOT_LIB_DIR to the folder of libkesvuot.a.";
+
 fn main() {
     println!("cargo:rerun-if-changed=build.rs");
     println!("cargo:rerun-if-env-changed=KESVUOT_LIB_DIR");
-    let linked = match env::var_os("KESVUOT_LIB_DIR") {
-        Some(folder) => link_from(Path::new(&folder)),
-        None => link_by_pkg_config(),
-    };
-    if let Err(why) = linked {
-        eprintln!(
-            "{why}\nInstall libkesvuot, or set KESVUOT_LIB_DIR to the folder of libkesvuot.a."
-        );
-        process::exit(1);
+    match env::var_os("KESVUOT_LIB_DIR") {
+        Some(folder) => link_from(Path::new(&folder)).unwrap_or_else(|why| {
+            eprintln!("{why}\n{HOW}");
+            process::exit(1);
+        }),
+        None => link_by_pkg_config().unwrap_or_else(|why| {
+            for line in why.lines().chain([HOW]) {
+                println!("cargo:warning={line}");
+            }
+            println!("cargo:rustc-link-lib=kesvuot");
+            // For cargo a file that is missing has changed, so the next build looks again.
+            println!("cargo:rerun-if-changed=libkesvuot");
+        }),
     }
 }
 

@@ -4,14 +4,12 @@ use core::fmt;
 
 use crate::exports::Exports;
 use crate::ffi::{self, Raw, Span};
-use alloc::vec::Vec;
-
 use crate::parts::{
-    Build, Command, DataInCode, Export, Indirect, Library, Relocation, Section, Segment, Symbol,
-    Table,
+    Build, Command, DataInCode, Export, Indirect, Library, Relocation, Section, Segment, Table,
 };
 use crate::rows::{Row, Rows, UncountedRows};
 use crate::signature::Blob;
+use crate::symbol::Symbol;
 use crate::symbol_index::SymbolIndex;
 
 /// An image of an accepted file.
@@ -488,12 +486,10 @@ impl<'a> Image<'a> {
     }
 
     /// The relocations of a section of this image, in their order.
-    #[must_use]
-    pub fn relocations(&self, section: &Section<'_>) -> Vec<Relocation> {
+    pub fn relocations(&self, section: &Section<'_>) -> impl ExactSizeIterator<Item = Relocation> {
         ffi::relocations(self.file, &self.raw, section.reloff, section.nreloc)
             .into_iter()
             .map(Relocation::from)
-            .collect()
     }
 
     /// The addresses of functions, before any slide, by the first `LC_FUNCTION_STARTS`. Each is below the next

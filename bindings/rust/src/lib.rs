@@ -12,6 +12,7 @@
 //! let file = std::fs::read(path)?;
 //! let verified = kesvuot::verify(&file, Profile::Layout)?;
 //! for image in verified.images() {
+//!     println!("{}", image.arch().unwrap_or("?"));
 //!     for segment in image.segments() {
 //!         println!("{} has {} bytes", segment.name.escape_ascii(), segment.bytes.len());
 //!     }
@@ -19,6 +20,10 @@
 //! # assert_eq!(verified.images().map(|image| image.segments().len()).sum::<usize>(), 5);
 //! # Ok::<(), Box<dyn std::error::Error>>(())
 //! ```
+//!
+//! The values of a file, a slice or an image are methods. A table of an image is a method that returns an iterator
+//! over rows, and the values of a row are its fields. Methods of a row decode its bits, such as [`Symbol::kind`], and
+//! methods of the image read the bytes of the file for a row, such as [`Image::name`].
 //!
 //! The [`Profile`] says how much is judged. Each profile accepts fewer files than the one before it, and promises
 //! more of them.
@@ -38,7 +43,8 @@
 //! memory.
 //!
 //! The crate is not published: depend on its folder, `kesvuot = { path = ".../bindings/rust" }`. It
-//! links `libkesvuot` from the folder `KESVUOT_LIB_DIR`, or else from where pkg-config finds it.
+//! links `libkesvuot` from the folder `KESVUOT_LIB_DIR`, or else from where pkg-config finds it. `cargo check` and
+//! `cargo doc` need no library.
 //!
 //! Without the feature `std`, which is on by default, the crate uses only `core` and `alloc`, and its
 //! errors are no `std::error::Error`.
@@ -66,6 +72,7 @@ mod profile;
 mod rows;
 mod rule;
 mod signature;
+mod symbol;
 mod symbol_index;
 mod verified;
 
@@ -78,12 +85,13 @@ pub use image::{Dysymtab, Image, Source, Symtab};
 pub use named_symbols::NamedSymbols;
 pub use parts::{
     Build, Command, DataInCode, Export, ExportKind, Indirect, Library, Relocation, Section,
-    Segment, Symbol, Table,
+    Segment, Table,
 };
 pub use profile::{ParseProfileError, Profile};
 pub use rows::{Rows, UncountedRows};
 pub use rule::{ParseRuleError, Rule};
 pub use signature::{Blob, CdHash, CodeDirectory};
+pub use symbol::{Symbol, SymbolKind, SymbolLibrary};
 pub use symbol_index::SymbolIndex;
 pub use verified::{Slice, Slices, Verified, VerifiedBuf};
 

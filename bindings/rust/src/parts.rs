@@ -7,7 +7,7 @@ use crate::constants::{
     EXPORT_SYMBOL_FLAGS_KIND_ABSOLUTE, EXPORT_SYMBOL_FLAGS_KIND_MASK,
     EXPORT_SYMBOL_FLAGS_KIND_REGULAR, EXPORT_SYMBOL_FLAGS_KIND_THREAD_LOCAL,
     EXPORT_SYMBOL_FLAGS_REEXPORT, EXPORT_SYMBOL_FLAGS_STUB_AND_RESOLVER, INDIRECT_SYMBOL_ABS,
-    INDIRECT_SYMBOL_LOCAL, N_SECT, N_STAB, N_TYPE,
+    INDIRECT_SYMBOL_LOCAL,
 };
 use crate::rows::Row;
 use crate::{ffi, Image};
@@ -455,57 +455,6 @@ impl<'a> Row<'a> for Command<'a> {
             name: image.part(raw.name),
             place: raw.bytes.offset - image.place(),
             cmd: raw.cmd,
-        }
-    }
-}
-
-/// A symbol. (`nlist_64`) Its name is [`Image::name`].
-#[derive(Clone, Copy, Debug, PartialEq, Eq)]
-#[non_exhaustive]
-pub struct Symbol {
-    /// `n_value`: the address of a symbol that is defined in a section, before any slide.
-    pub value: u64,
-    /// `n_strx`: where the name begins in the string table, or 0 if it has none.
-    pub strx: u32,
-    /// `n_desc`
-    pub desc: u16,
-    /// `n_type`
-    pub kind: u8,
-    /// `n_sect`: the number of a section, from 1 on, from which `section` is. It is 0 (`NO_SECT`) if the
-    /// symbol is in no section, and may be past the last section, such as in a debugging entry
-    /// (`N_STAB`).
-    pub sect: u8,
-    /// The index in [`Image::sections`](crate::Image::sections) of the section with the number `sect`,
-    /// whatever the type is, or `None` if there is none. The symbol is defined in that section only if
-    /// its type is `N_SECT` and it is no debugging entry (`N_STAB`): then this is always an index.
-    pub section: Option<usize>,
-}
-
-impl Symbol {
-    /// The index in [`Image::sections`](crate::Image::sections) of the section that defines the
-    /// symbol. `None` if the symbol is defined elsewhere or nowhere, or is a debugging entry, even if
-    /// that has a `section`.
-    #[must_use]
-    pub fn section_index(&self) -> Option<usize> {
-        let is_defined = self.kind & N_STAB == 0 && self.kind & N_TYPE == N_SECT;
-        self.section.filter(|_| is_defined)
-    }
-}
-
-impl<'a> Row<'a> for Symbol {
-    type Raw = ffi::Symbol;
-
-    const IS_INDEXED: bool = true;
-
-    #[inline]
-    fn new(raw: ffi::Symbol, _: &Image<'a>) -> Self {
-        Symbol {
-            value: raw.value,
-            strx: raw.strx,
-            desc: raw.desc,
-            kind: raw.r#type,
-            sect: raw.sect,
-            section: (raw.section != ffi::NO_SECTION).then_some(raw.section as usize),
         }
     }
 }

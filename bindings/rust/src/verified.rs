@@ -83,6 +83,20 @@ impl<'a> Verified<'a> {
         }
     }
 
+    /// The slices without an image, in which nothing was judged. All of them have an image if the count is 0.
+    ///
+    /// ```
+    /// # let path = concat!(env!("CARGO_MANIFEST_DIR"), "/../../tests/real/library");
+    /// # let file = std::fs::read(path)?;
+    /// # let verified = kesvuot::verify(&file, kesvuot::Profile::Layout)?;
+    /// let unread: Vec<_> = verified.unread_slices().map(|slice| slice.arch()).collect();
+    /// assert_eq!(unread, []);
+    /// # Ok::<(), Box<dyn std::error::Error>>(())
+    /// ```
+    pub fn unread_slices(&self) -> impl Iterator<Item = Slice<'a>> {
+        self.slices().filter(|slice| slice.image().is_none())
+    }
+
     /// The image of the slice with this index. `None` past the last one, and if the slice is not
     /// read.
     #[must_use]
@@ -206,10 +220,16 @@ impl<'a> Slice<'a> {
         self.image.cputype()
     }
 
-    /// `cpusubtype` of the image or the table, without the capability byte (`CPU_SUBTYPE_MASK`).
+    /// `cpusubtype` of the image or the table, either without the capability byte (`CPU_SUBTYPE_MASK`).
     #[must_use]
     pub fn cpusubtype(&self) -> u32 {
         self.image.cpusubtype()
+    }
+
+    /// The name of the architecture, as [`Image::arch`] has it.
+    #[must_use]
+    pub fn arch(&self) -> Option<&'static str> {
+        self.image.arch()
     }
 
     /// The image of the slice. `None` if the slice is of 32 bits or big-endian: what is in it was

@@ -176,12 +176,12 @@ fn sections_of_symbols_exist() {
     assert_eq!(image.sections().len(), 2);
     let found = image.symbols().map(|symbol| {
         let Symbol {
-            kind,
+            n_type,
             sect,
             section,
             ..
         } = symbol;
-        (kind, sect, section, symbol.section_index())
+        (n_type, sect, section, symbol.section_index())
     });
     assert_eq!(found.collect::<Vec<_>>(), wanted);
     assert_eq!(image.symbol(3).unwrap().section, Some(1));

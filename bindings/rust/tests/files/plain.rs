@@ -318,7 +318,7 @@ fn compare_symbols(image: &Image, commands: &[Plain]) {
             (strx != 0).then(|| text(&part(image.bytes(), stroff, strsize)[strx as usize..]));
         assert_eq!((image.name(&found), named, found.strx), (name, name, strx));
         assert_eq!(
-            (found.kind, found.sect, found.desc),
+            (found.n_type, found.sect, found.desc),
             (bytes[4], bytes[5], half(bytes, 6))
         );
         assert_eq!(found.value, long(bytes, 8));
@@ -352,10 +352,10 @@ fn nearest(symbols: &[(u64, Symbol)], address: u64) -> Option<(u64, Symbol)> {
 /// up.
 fn compare_lookups(image: &Image) {
     let all: Vec<_> = (0..).zip(image.symbols()).collect();
-    let is_plain = |symbol: &Symbol| symbol.kind & 0xe0 == 0;
+    let is_plain = |symbol: &Symbol| symbol.n_type & 0xe0 == 0;
     let mut found: Vec<_> = all
         .iter()
-        .filter(|(_, symbol)| is_plain(symbol) && symbol.kind & 0x0e == 0x0e)
+        .filter(|(_, symbol)| is_plain(symbol) && symbol.n_type & 0x0e == 0x0e)
         .copied()
         .collect();
     let index = image.symbol_index();
@@ -501,8 +501,7 @@ fn compare_relocations(image: &Image) {
         let (start, count) = (section.reloff.into(), u64::from(section.nreloc));
         let words = part(image.bytes(), start, 8 * count).chunks_exact(8);
         let wanted = words.map(|bytes| (word(bytes, 0), word(bytes, 4)));
-        let found = image.relocations(&section);
-        let found = found.into_iter().map(|found| {
+        let found = image.relocations(&section).map(|found| {
             assert_eq!(found.is_scattered, found.address >= 1 << 31);
             assert!(found.symbolnum < 1 << 24 && found.length < 4 && found.kind < 16);
             let bits = found.symbolnum
