@@ -55,6 +55,10 @@ finds file row shows name status export found inside is answer = (
       (subst (Answers no_export status export) (is (unbroken file row shows)) answer),
 )
 
+found_in : (trie name : List ℕ) (terminal : Span) → find_terminal trie name ≡ Some terminal → find_export trie name ≡ option_map (λ e. e.0) (export_in trie terminal)
+unfolding find_export
+found_in trie name terminal is = ap (λ (o : Option Span). option_and_then (λ (t : Span). option_map (λ e. e.0) (export_in trie t)) o) is
+
 -- what any reader finds is what the look-up finds
 pub finds_alike : (image : List ℕ) (place : ℕ) (name : List ℕ) (status : ℕ) (export : KesvuotExport) → HasOneExportOfName image → FindsExport image place name status export
     → FindsAlike image place name status export
@@ -64,7 +68,3 @@ finds_alike image place name status export one found table terminal is reads =
     let base = unwrap_or (base_of image (commands_of image)) 0 in
     let at_table = subst (λ (o : Option Span). Answers no_export status export (exported base place image o name)) is found.1 in
     subst (λ (e : Option Export). Answers no_export status export (option_map (export_row base (place + table.start) trie) e)) (found_in trie name terminal looked_up) at_table
-  where
-    unfolding find_export
-    found_in : (trie name : List ℕ) (terminal : Span) → find_terminal trie name ≡ Some terminal → find_export trie name ≡ option_map (λ e. e.0) (export_in trie terminal)
-    found_in trie name terminal is = ap (λ (o : Option Span). option_and_then (λ (t : Span). option_map (λ e. e.0) (export_in trie t)) o) is
