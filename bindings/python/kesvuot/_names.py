@@ -22,7 +22,7 @@ FILETYPES = {
     12: "set of kernel extensions",
     # registry: end
 }
-JUDGED_FILETYPES = [number for name, number in vars(constants).items() if name.startswith("MH_")]
+JUDGED_FILETYPES = [constants.MH_EXECUTE, constants.MH_DYLIB, constants.MH_BUNDLE]
 
 # What an image has to do with a library that it names.
 LIBRARIES = {
