@@ -163,8 +163,8 @@ def explain_vectors(report):
              for _, vectors in oracle_trials.read_all_vectors(profile) for vector in vectors]
     report.alike("explanations", "refusals", ((name, said[2], wanted_explanation(data, *said[:2]))
                                               for name, data, said in found if said))
-    report.case("the rules that are explained", {said[0] for _, _, said in found if said},
-                {rule.name for rule in read_rules()} - HIDDEN)
+    report.case("the rules that are explained", sorted({said[0] for _, _, said in found if said}),
+                sorted({rule.name for rule in read_rules()} - HIDDEN))
     other = kesvuot.Refused("section-file", 1 << 64), kesvuot.Refused("no-rule", 0), kesvuot.Refused("magic", 1)
     report.case("no refusals of these bytes", [kesvuot.explain(b"", refused) for refused in other], [None, None, None])
 
