@@ -1106,7 +1106,7 @@ uint32_t kesvuot_find_address(const void *file, size_t size, const struct kesvuo
 #define KESVUOT_N_ALT_ENTRY 0x200
 #define KESVUOT_N_COLD_FUNC 0x400
 
-/* The ordinals of libraries that are no index: of the image itself, of all images, and of the program. (mach-o/nlist.h) */
+/* The ordinals that stand for the image itself, for all images, and for the program. (mach-o/nlist.h) */
 #define KESVUOT_SELF_LIBRARY_ORDINAL 0x0
 #define KESVUOT_DYNAMIC_LOOKUP_ORDINAL 0xfe
 #define KESVUOT_EXECUTABLE_ORDINAL 0xff

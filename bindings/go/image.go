@@ -224,7 +224,7 @@ func (image *Image) Table(table Table) (bytes []byte, ok bool) {
 }
 
 // SourceVersion returns the version A.B.C.D.E of the sources, by the first LC_SOURCE_VERSION of at least 16 bytes. It
-// is not ok if there is no such symbol.
+// is not ok without one.
 func (image *Image) SourceVersion() (version [5]uint32, ok bool) {
 	number, ok := readSourceVersion(image)
 	version[0] = uint32(number >> 40)
@@ -239,7 +239,7 @@ func (image *Image) RunPaths() [][]byte {
 	return image.namesOf(0x8000001c)
 }
 
-// DynamicLinker returns the path of the first LC_LOAD_DYLINKER. It is not ok if there is no such symbol.
+// DynamicLinker returns the path of the first LC_LOAD_DYLINKER. It is not ok without one.
 func (image *Image) DynamicLinker() (path []byte, ok bool) {
 	paths := image.namesOf(0xe)
 	if len(paths) == 0 {

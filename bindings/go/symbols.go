@@ -210,7 +210,7 @@ func (image *Image) OtherName(symbol Symbol) []byte {
 	return readName(image, uint32(symbol.Value))
 }
 
-// Symbol returns the symbol with this index in the table. It is not ok if there is no such symbol.
+// Symbol returns the symbol with this index in the table. It is not ok past the last one.
 func (image *Image) Symbol(index uint64) (symbol Symbol, ok bool) {
 	cursor := symbolCursor(index)
 	rows := readRows[symbolRow](image, symbolTable, &cursor, 1)
@@ -234,7 +234,7 @@ func (image *Image) SymbolAt(address uint64) (symbol Symbol, ok bool) {
 }
 
 // SymbolNamed returns the first symbol in the table with this name that is not a debugging entry. It need not be defined
-// in the image. It is not ok if there is no such symbol. Each call reads all symbols: for many names, read Symbols once.
+// in the image. It is not ok without one. Each call reads all symbols: for many names, read Symbols once.
 func (image *Image) SymbolNamed(name string) (symbol Symbol, ok bool) {
 	row, ok := findName(image, name)
 	if !ok {

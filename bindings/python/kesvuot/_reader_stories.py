@@ -33,7 +33,7 @@ MAGIC_NUMBERS: Dict[int, int] = {
 # The slots that have a name in the header.
 NAMED_SLOTS = frozenset((
     *range(CSSLOT_LIBRARY_CONSTRAINT + 1), *DIRECTORY_SLOTS, *range(CSSLOT_SIGNATURESLOT, CSSLOT_TICKETSLOT + 1)))
-# What a symbol is that has a type.
+# The kinds of symbols, by their types.
 TYPES = {N_ABS: "an absolute symbol", N_SECT: "a symbol of a section", N_INDR: "a stand-in for another name"}
 
 

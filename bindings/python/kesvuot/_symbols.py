@@ -74,7 +74,7 @@ class Symbol(NamedTuple):
     """An nlist_64.
 
     `section` is the index in `Image.sections` of the section with the number `sect`, whatever the `type` is, or None if
-    there is not one. The symbol is defined in that section only if its `kind` is SECTION: then this is always an index. Do
+    there is not any. The symbol is defined in that section only if its `kind` is SECTION: then this is always an index. Do
     not subtract 1 from `sect`: it is 0 (NO_SECT) if the symbol is in no section, and may be past the last section, such
     as in a debugging entry (N_STAB).
 

@@ -196,7 +196,7 @@ N_SYMBOL_RESOLVER = 0x100
 N_ALT_ENTRY = 0x200
 N_COLD_FUNC = 0x400
 
-# The ordinals of libraries that are no index: of the image itself, of all images, and of the program. (mach-o/nlist.h)
+# The ordinals that stand for the image itself, for all images, and for the program. (mach-o/nlist.h)
 SELF_LIBRARY_ORDINAL = 0x0
 DYNAMIC_LOOKUP_ORDINAL = 0xfe
 EXECUTABLE_ORDINAL = 0xff

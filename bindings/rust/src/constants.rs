@@ -198,7 +198,7 @@ pub const N_SYMBOL_RESOLVER: u16 = 0x100;
 pub const N_ALT_ENTRY: u16 = 0x200;
 pub const N_COLD_FUNC: u16 = 0x400;
 
-// The ordinals of libraries that are no index: of the image itself, of all images, and of the program. (mach-o/nlist.h)
+// The ordinals that stand for the image itself, for all images, and for the program. (mach-o/nlist.h)
 pub const SELF_LIBRARY_ORDINAL: u16 = 0x0;
 pub const DYNAMIC_LOOKUP_ORDINAL: u16 = 0xfe;
 pub const EXECUTABLE_ORDINAL: u16 = 0xff;

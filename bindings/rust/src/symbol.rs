@@ -33,7 +33,7 @@ pub struct Symbol {
     pub section: Option<usize>,
 }
 
-/// What a symbol is, by `N_TYPE` of its `n_type`.
+/// The kind of a symbol, by `N_TYPE` of its `n_type`.
 #[derive(Clone, Copy, Debug, PartialEq, Eq, Hash)]
 #[non_exhaustive]
 pub enum SymbolKind {
@@ -69,7 +69,7 @@ pub enum SymbolLibrary {
 }
 
 impl Symbol {
-    /// What the symbol is.
+    /// The kind of the symbol.
     #[must_use]
     pub fn kind(&self) -> SymbolKind {
         if self.n_type & N_STAB != 0 {
