@@ -19,13 +19,15 @@ use std::alloc::Global;
 /// accepts it, or returns the first broken one, with its place in the file.
 ///
 /// The unambiguous rules of the file come first; then the rules of its 64-bit slices, in the order of the table. It
-/// takes time in the order of n log n for n slices, segments, sections and commands. It takes memory for each slice of a
-/// universal file, for sections and for segments if there are more than 64, and for commands of platforms if there are
-/// several. Bytes under zero-fill sections are read once.
+/// takes time in the order of n log n for n slices, segments, sections and commands, and for the bytes of the names of
+/// external symbols, binds and imports. It takes memory for each slice of a universal file, for sections and for
+/// segments if there are more than 64, for commands of platforms if there are several, and for external symbols, binds,
+/// imports, and pending nodes of the export trie. Bytes under zero-fill sections are read once.
 pub fn verify_unambiguous<'a>(alloc: Global, file: &'a [u8]) -> Result<Verified<'a>, Refusal>
     // It accepts only a file that `verify_linked` accepts and that breaks no unambiguous rule: so readers that choose
-    // between slices, segments, sections, commands and entries in different ways choose the same ones. It refuses only a
-    // file that breaks a rule of the four profiles, unless memory runs out.
+    // between slices, segments, sections, commands and entries in different ways choose the same ones, and find the same
+    // binds, symbols, exports and signature. It refuses only a file that breaks a rule of the four profiles, unless
+    // memory runs out.
     ensures accepted { OnOk result (KeepsUnambiguous file.now) }
     ensures refused { IfErr result (IsUnambiguousRefusal file.now) }
     ensures file { IfOk result (λ verified. verified ≡ file.now) }
