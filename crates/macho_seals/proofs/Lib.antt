@@ -3,6 +3,7 @@ pub mod Blobs
 pub mod Slacks
 pub mod TakenSlots
 pub mod PageSpans
+pub mod PageGroups
 pub mod HashTests
 pub mod PlacedDirectories
 pub mod SharedPages

@@ -3,10 +3,10 @@ use Rattle.std.proofs.Common.{◌≡◌, ◌↔◌, ℕ, ◌+◌, ◌≤◌, ◌
 use Rattle.std.proofs.lemmas.Bool.{cases_lt}
 use Rattle.macho_fields.specs.FirstPlace.{IsLeastPlace}
 use Rattle.macho_fields.proofs.Options.{some_of, of_some}
-use Rattle.macho_seals.specs.Directories.{EachDirectory, AnyDirectory, IsWholeBefore, AreWhole, HasPageSize, IsOneOfSize, HasPage, HasPageOfSize, LacksPageOfSize, HasOtherPage, HasOtherOfSize, HasOtherBelow, HaveOtherPage, HaveOtherOfSize, HaveOtherBelow}
+use Rattle.macho_seals.specs.Directories.{EachDirectory, AnyDirectory, IsWholeBefore, AreWhole, HasPageSize, HasSlotFor, IsOneOfSize, HasPage, HasPageOfSize, LacksPageOfSize, HasOtherPage, HasOtherOfSize, HasOtherBelow, HaveOtherPage, HaveOtherOfSize, HaveOtherBelow}
 use Rattle.macho_seals.specs.Pages.{bytes_in, page_at, page_span}
 use Rattle.macho_seals.specs.declared.directories.Directory.{Directory}
-use Rattle.macho_seals.proofs.PlacedDirectories.{at_number, any_gives, any_turned, any_mapped}
+use Rattle.macho_seals.proofs.PlacedDirectories.{at_number, any_gives, any_turned, any_mapped, each_turned}
 use Rattle.macho_seals.proofs.Firsts.{first_at, none_at}
 use Rattle.macho_seals.proofs.PageSpans.{page_inside, page_rises}
 use Rattle.macho_signature.specs.CodeDirectories.{slots_of, HasSlots}
@@ -57,6 +57,11 @@ module _ (image : List ℕ) (directories : List (Option Directory)) (limit : ℕ
 
     count_of_each : (this : Directory) → IsWholeBefore limit this → HasPageSize size this → this.fields.code_slots ≡ slots_of size limit
     count_of_each this is same = is.0.slots.slots ∙ (ap (λ s. slots_of s this.fields.limit) same ∙ ap (slots_of size) is.1)
+
+    -- each has a hash of a page that one has
+    pub each_has_slot : (k : ℕ) → k < slots_of size limit → EachDirectory directories (HasSlotFor size k)
+    each_has_slot k less =
+        each_turned directories (IsWholeBefore limit) (HasSlotFor size k) (λ this is. (is.0.hashes, λ same. subst (λ n. k < n) (sym (count_of_each this is same)) less)) whole
 
     pub none_lacks : (k : ℕ) → EachDirectory directories (HasPageOfSize size k (bytes_in image (page_span size limit k))) → ¬ LackPage image directories size limit k
     none_lacks k each =

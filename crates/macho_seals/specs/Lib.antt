@@ -1,5 +1,6 @@
 pub mod Digests
 pub mod Pages
+pub mod SideBySide
 pub mod Specials
 pub mod Executable
 pub mod Signature

@@ -3,6 +3,8 @@
 
 ghost use Rattle.std.specs.Prelude.{◌≡◌, ◌↔◌, ◌≤◌, length, take, IsTrue};
 ghost use Rattle.macho_seals.specs.Digests.{HasHash};
+ghost use Rattle.macho_seals.specs.SideBySide.{IsDigestOf, IsSha256};
+ghost use Rattle.sha2.specs.Sha256.{sha256};
 
 use macho_fields::header::cs_blobs::{
     CS_CDHASH_LEN, CS_HASHTYPE_SHA1, CS_HASHTYPE_SHA256, CS_HASHTYPE_SHA256_TRUNCATED,
@@ -30,16 +32,25 @@ pub enum Digest {
 impl Digest {
     ghost use Rattle.std.specs.Prelude.{◌≡◌, ◌≤◌, length, take};
     ghost use Rattle.macho_seals.specs.Digests.{digest, bytes_of_digest, type_of_digest};
+    ghost use Rattle.macho_seals.specs.SideBySide.{IsDigestOf};
 
     /// The digest of a message by a type, or `None` if the type is not known.
     pub fn of(hash_type: u8, message: &[u8]) -> Option<Digest>
         ensures { result ≡ digest hash_type message.now }
     {
+        Digest::with(hash_type, message, None)
+    }
+
+    // The same, where the digest of the message by SHA-256 may be known.
+    fn with(hash_type: u8, message: &[u8], known: Option<[u8; 32]>) -> Option<Digest>
+        requires { IsDigestOf message.now known }
+        ensures { result ≡ digest hash_type message.now }
+    {
         match hash_type {
             CS_HASHTYPE_SHA1 => Some(Digest::Sha1(Sha1::digest(message))),
-            CS_HASHTYPE_SHA256 => Some(Digest::Sha256(Sha256::digest(message))),
+            CS_HASHTYPE_SHA256 => Some(Digest::Sha256(sha256(message, known))),
             CS_HASHTYPE_SHA256_TRUNCATED => {
-                let whole = Sha256::digest(message);
+                let whole = sha256(message, known);
                 Some(Digest::Sha256Truncated(first_bytes(&whole)))
             }
             CS_HASHTYPE_SHA384 => Some(Digest::Sha384(Sha384::digest(message))),
@@ -85,9 +96,40 @@ impl Digest {
 pub fn has_hash(hash_type: u8, message: &[u8], hash: &[u8]) -> bool
     ensures { IsTrue result ↔ HasHash hash_type message.now hash.now }
 {
-    match Digest::of(hash_type, message) {
+    has_hash_with(hash_type, message, None, hash)
+}
+
+// The same, where the digest of the message by SHA-256 may be known.
+pub(crate) fn has_hash_with(
+    hash_type: u8,
+    message: &[u8],
+    known: Option<[u8; 32]>,
+    hash: &[u8],
+) -> bool
+    requires { IsDigestOf message.now known }
+    ensures { IsTrue result ↔ HasHash hash_type message.now hash.now }
+{
+    match Digest::with(hash_type, message, known) {
         Some(digest) => digest.as_bytes() == hash,
         None => false,
+    }
+}
+
+// Whether hashes of a type begin with bytes of the digest by SHA-256.
+pub(crate) fn is_sha256(hash_type: u8) -> bool
+    ensures { IsTrue result ↔ IsSha256 hash_type }
+{
+    matches!(hash_type, CS_HASHTYPE_SHA256 | CS_HASHTYPE_SHA256_TRUNCATED)
+}
+
+// The digest of a message by SHA-256, which may be known.
+fn sha256(message: &[u8], known: Option<[u8; 32]>) -> [u8; 32]
+    requires { IsDigestOf message.now known }
+    ensures { result ≡ sha256 message.now }
+{
+    match known {
+        Some(digest) => digest,
+        None => Sha256::digest(message),
     }
 }
 

@@ -5,10 +5,11 @@ ghost use Rattle.std.specs.Prelude.{◌≡◌, ◌↔◌, ◌<◌, IsTrue, Match
 ghost use Rattle.macho_fields.specs.Bytes.{bytes_of};
 ghost use Rattle.macho_seals.specs.Signature.{AreApart};
 ghost use Rattle.macho_seals.specs.Directories.{EachDirectory, AnyDirectory, IsDirectoryOf, AreDirectories, HasHashesInside, HasOtherSize, HasSlotFor, HasPage, HasPageOfSize, LacksPageOfSize, HasSpecial, LacksSpecial, IsOneOfSize};
+ghost use Rattle.macho_seals.specs.SideBySide.{IsDigestOf, UsesSha256, UsesNoSha256};
 ghost use Rattle.macho_seals.specs.Specials.{is_special_slot};
 ghost use Rattle.macho_signature.specs.Superblobs.{blob_count, AreGoodBlobs};
 
-use crate::digest::has_hash;
+use crate::digest::{has_hash_with, is_sha256};
 use crate::pages::code_slot;
 use crate::signature::{blob_at, blob_bytes, superblob_of};
 use crate::slots::{DIRECTORY_SLOTS, slot_number};
@@ -52,16 +53,26 @@ fn directory_of(bytes: &[u8]) -> Option<Directory>
     Some(Directory { blob, fields })
 }
 
-// Whether each one with pages of this size has the hash of the page with this index.
-pub(crate) fn have_page(directories: &Directories, page_size: u8, index: u32, page: &[u8]) -> bool
-    requires { EachDirectory directories.now (HasSlotFor page_size index) }
+// Whether each one with pages of this size has the hash of the page with this index, whose digest by SHA-256 may be
+// known.
+pub(crate) fn have_page(
+    directories: &Directories,
+    page_size: u8,
+    index: u32,
+    page: &[u8],
+    known: Option<[u8; 32]>,
+) -> bool
+    requires slots { EachDirectory directories.now (HasSlotFor page_size index) }
+    requires known { IsDigestOf page.now known }
     ensures { MatchBool result
         (EachDirectory directories.now (HasPageOfSize page_size index page.now))
         (AnyDirectory directories.now (LacksPageOfSize page_size index page.now)) }
 {
     for directory in directories {
         if let Some(directory) = directory {
-            if directory.fields.page_size == page_size && !has_page(*directory, index, page) {
+            if directory.fields.page_size == page_size
+                && !has_page(*directory, index, page, known)
+            {
                 return false;
             }
         }
@@ -70,13 +81,14 @@ pub(crate) fn have_page(directories: &Directories, page_size: u8, index: u32, pa
 }
 
 // Whether one has the hash of the page with this index.
-fn has_page(directory: Directory, index: u32, page: &[u8]) -> bool
+fn has_page(directory: Directory, index: u32, page: &[u8], known: Option<[u8; 32]>) -> bool
     requires hashes { HasHashesInside directory }
     requires index { index < directory.fields.code_slots }
+    requires known { IsDigestOf page.now known }
     ensures { IsTrue result ↔ HasPage index page.now directory.entry }
 {
     let hash = directory.blob.read_part(code_slot(directory.fields, index));
-    has_hash(directory.fields.hash_type, page, hash)
+    has_hash_with(directory.fields.hash_type, page, known, hash)
 }
 
 // Whether each has this special slot, and in it the hash of the message.
@@ -95,6 +107,22 @@ pub(crate) fn have_special(directories: &Directories, slot: u32, message: &[u8])
         }
     }
     true
+}
+
+// Whether one with pages of this size has hashes by SHA-256.
+pub(crate) fn use_sha256(directories: &Directories, page_size: u8) -> bool
+    ensures { MatchBool result
+        (AnyDirectory directories.now (UsesSha256 page_size))
+        (EachDirectory directories.now (UsesNoSha256 page_size)) }
+{
+    for directory in directories {
+        if let Some(directory) = directory {
+            if directory.fields.page_size == page_size && is_sha256(directory.fields.hash_type) {
+                return true;
+            }
+        }
+    }
+    false
 }
 
 // One with pages of this size, if there is one.

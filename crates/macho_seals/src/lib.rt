@@ -9,6 +9,7 @@ pub mod executable;
 pub mod hashes;
 pub mod pages;
 pub mod repeated;
+mod side_by_side;
 pub mod signature;
 pub mod slack;
 mod slots;

@@ -8,7 +8,8 @@ ghost use Rattle.macho_seals.specs.Pages.{page_at as page_at_of, code_slot as co
 ghost use Rattle.macho_signature.specs.CodeDirectories.{HasSlots};
 ghost use Rattle.macho_spans.specs.Span.{end_of};
 
-use crate::directories::{Directories, have_page, one_of_size};
+use crate::directories::{Directories, have_page, one_of_size, use_sha256};
+use crate::side_by_side::{digest_in_group, digests_of_group};
 use macho_fields::header::cs_blobs::MOST_PAGE_SIZE;
 use macho_fields::{Bytes, Span};
 use macho_signature::CodeDirectory;
@@ -34,9 +35,13 @@ fn first_other_of_size(image: Bytes, directories: &Directories, page_size: u8) -
     ensures { IsLeastPlace (HaveOtherOfSize (bytes_of image.entry) directories.now page_size) result }
 {
     let one = one_of_size(directories, page_size)?;
+    let side_by_side = use_sha256(directories, page_size);
+    let mut digests = None;
     for index in 0..one.code_slots {
+        digests = digests_of_group(image, one, index, side_by_side, digests);
         let page = page_at(one, index);
-        if !have_page(directories, page_size, index, image.read_part(page)) {
+        let known = digest_in_group(&digests, index);
+        if !have_page(directories, page_size, index, image.read_part(page), known) {
             return Some(page.start);
         }
     }

@@ -1,0 +1,4 @@
+mod LaneWise
+mod LaneWords
+mod Messages
+mod Rotations
