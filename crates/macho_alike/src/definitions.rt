@@ -88,15 +88,15 @@ fn first_of_name(image: &Image, known: Option<DefinedName>, this: DefinedName) -
     }
 }
 
-// Whether the symbol is external and defined, and has a name.
-fn defines_name(symbol: Symbol) -> bool
+/// Whether the symbol is external and defined, and has a name.
+pub fn defines_name(symbol: Symbol) -> bool
     ensures { IsTrue result ↔ DefinesName symbol }
 {
     is_defined_kind(symbol.kind) && symbol.strx != 0
 }
 
-// What the symbol says of its name.
-fn meaning_of(symbol: Symbol) -> Meaning
+/// What the symbol says of its name.
+pub fn meaning_of(symbol: Symbol) -> Meaning
     ensures { result ≡ meaning_of symbol }
 {
     Meaning {
@@ -106,8 +106,8 @@ fn meaning_of(symbol: Symbol) -> Meaning
     }
 }
 
-// Whether they say the same.
-fn same(one: Meaning, other: Meaning) -> bool
+/// Whether they say the same.
+pub fn same(one: Meaning, other: Meaning) -> bool
     ensures { IsTrue result ↔ (one ≡ other) }
 {
     one.value == other.value && one.kind == other.kind && one.weak == other.weak

@@ -96,8 +96,8 @@ impl Readers {
     }
 }
 
-// Whether the symbol with this index is not in exactly the one group that its type says.
-fn is_misgrouped(groups: Dysymtab, index: u64, kind: u8) -> bool
+/// Whether the symbol with this index is not in exactly the one group that its type says.
+pub fn is_misgrouped(groups: Dysymtab, index: u64, kind: u8) -> bool
     ensures { IsTrue result ↔ IsMisgrouped groups index kind }
 {
     let is_local = is_in(groups.ilocalsym, groups.nlocalsym, index);
@@ -122,8 +122,8 @@ fn is_local_kind(kind: u8) -> bool
     !is_external(kind)
 }
 
-// Whether a symbol of this type is one that the image defines for others.
-pub(crate) fn is_defined_kind(kind: u8) -> bool
+/// Whether a symbol of this type is one that the image defines for others.
+pub fn is_defined_kind(kind: u8) -> bool
     ensures { IsTrue result ↔ IsDefined kind }
 {
     is_external(kind) && !is_of_another(kind)
@@ -136,15 +136,15 @@ pub(crate) fn is_undefined_kind(kind: u8) -> bool
     is_external(kind) && is_of_another(kind)
 }
 
-// Whether a symbol of this type is external, and no entry for debuggers.
-pub(crate) fn is_external(kind: u8) -> bool
+/// Whether a symbol of this type is external, and no entry for debuggers.
+pub fn is_external(kind: u8) -> bool
     ensures { IsTrue result ↔ IsExternal kind }
 {
     kind & N_STAB == 0 && kind & N_EXT != 0
 }
 
-// Whether the type is one of symbols that another image defines.
-pub(crate) fn is_of_another(kind: u8) -> bool
+/// Whether the type is one of symbols that another image defines.
+pub fn is_of_another(kind: u8) -> bool
     ensures { IsTrue result ↔ IsOfAnother kind }
 {
     kind & N_TYPE == N_UNDF || kind & N_TYPE == N_PBUD

@@ -1,6 +1,6 @@
 -- What is shown where readers see another export, another kind of a symbol, or something else of a name.
 -- (mach-o/loader.h: symtab_command, dysymtab_command, LC_DYLD_EXPORTS_TRIE; mach-o/nlist.h: nlist_64)
-use Rattle.std.specs.Prelude.{◌≡◌, ◌≢◌, ℕ, ◌+◌, ◌*◌, ◌≤◌, ◌<◌, ◌⊎◌, ◌==◌, ◌&&◌, nat_le, not, List, [], Bool, length, map, take, slice_get, Option, None, IsSomeAnd, bit_and, if◌then◌else◌}
+use Rattle.std.specs.Prelude.{◌≡◌, ◌≢◌, ℕ, ◌+◌, ◌*◌, ◌≤◌, ◌<◌, ◌⊎◌, nat_le, List, [], length, map, take, slice_get, Option, None, IsSomeAnd, if◌then◌else◌}
 use Rattle.std.specs.List.{sum_by}
 use Rattle.std.specs.Option.{option_and_then, option_map, option_map_or}
 use Rattle.macho_fields.specs.Field.{part, string_from}
@@ -8,7 +8,6 @@ use Rattle.macho_fields.specs.Image.{commands_of}
 use Rattle.macho_fields.specs.Segment.{base_of}
 use Rattle.macho_fields.specs.Symbol.{n_type, stroff}
 use Rattle.macho_fields.specs.declared.header.loader.TheConstants as loader
-use Rattle.macho_fields.specs.declared.header.nlist.TheConstants as nlist
 use Rattle.macho_image.specs.Command.{first_with_cmd}
 use Rattle.macho_image.specs.Symbol.{dysymtab_at, symbol_at, symbols_of}
 use Rattle.macho_image.specs.declared.dysymtab.Dysymtab.{Dysymtab}
@@ -22,6 +21,7 @@ use Rattle.macho_spans.specs.Span.{end_of}
 use Rattle.macho_alike.specs.Definitions.{DefinesName, meaning_of}
 use Rattle.macho_alike.specs.Exports.{label_of, labels_of, Clash}
 use Rattle.macho_alike.specs.SymbolModels.{group_of, IsOfType, SymbolKind}
+use Rattle.macho_alike.specs.SymbolTotal.{has_external_name}
 use Rattle.macho_alike.specs.Symbols.{IsMisgrouped}
 use Rattle.macho_explain.specs.Explain.{written, IsSymbolAt}
 use Rattle.macho_explain.specs.declared.conflict.Conflict.{Conflict}
@@ -147,10 +147,6 @@ IsDefinitionShown image place c =
     × ((index : ℕ) × IsSymbolAt image index place × IsOtherValue image (symbol_at image place) index c.limit)
 
 -- The names of external symbols
-
-abbrev pub has_external_name : Symbol → Bool
-has_external_name symbol =
-    (bit_and symbol.kind nlist.N_STAB == 0) && (not (bit_and symbol.kind nlist.N_EXT == 0) && not (symbol.strx == 0))
 
 -- how many bytes its name has, with the zero byte that ends it
 abbrev pub name_size : List ℕ → Symbol → ℕ

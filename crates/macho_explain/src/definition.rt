@@ -9,16 +9,16 @@ ghost use Rattle.macho_explain.specs.Explained.{ExplainsIn};
 
 use crate::conflict::Conflict;
 use crate::explanation::Explanation;
-use crate::kinds::{is_defined_kind, is_external};
 use crate::part::{Part, PartKind, index_of};
 use crate::sliced::Sliced;
 use crate::strings::string_at;
 use crate::symbol::{symbol_here, symbol_with};
-use macho_alike::definitions::Meaning;
+use macho_alike::definitions::{defines_name, meaning_of, same};
+use macho_alike::symbols::is_external;
 use macho_exports::export_trie::{Target, find_export};
 use macho_exports::exports::export_table;
 use macho_fields::Bytes;
-use macho_fields::header::nlist::{N_TYPE, N_WEAK_DEF, NLIST_64_SIZE};
+use macho_fields::header::nlist::NLIST_64_SIZE;
 use macho_image::{Image, Symbol};
 
 // The value of the symbol, and of the first earlier symbol that defines the same name and says something else of it; or
@@ -84,32 +84,7 @@ fn is_other(image: &Image, symbol: Symbol, name: &[u8], other: Symbol) -> bool
 fn says_other(one: Symbol, other: Symbol) -> bool
     ensures { IsTrue result ↔ (DefinesName one × (meaning_of one ≢ meaning_of other)) }
 {
-    defines_name(one) && !same(meaning(one), meaning(other))
-}
-
-// What a symbol says of its name.
-fn meaning(symbol: Symbol) -> Meaning
-    ensures { result ≡ meaning_of symbol }
-{
-    Meaning {
-        value: symbol.value,
-        kind: symbol.kind & N_TYPE,
-        weak: symbol.desc & N_WEAK_DEF,
-    }
-}
-
-// Whether they say the same.
-fn same(one: Meaning, other: Meaning) -> bool
-    ensures { IsTrue result ↔ (one ≡ other) }
-{
-    one.value == other.value && one.kind == other.kind && one.weak == other.weak
-}
-
-// Whether the symbol is external and defined, and has a name.
-fn defines_name(symbol: Symbol) -> bool
-    ensures { IsTrue result ↔ DefinesName symbol }
-{
-    is_defined_kind(symbol.kind) && symbol.strx != 0
+    defines_name(one) && !same(meaning_of(one), meaning_of(other))
 }
 
 // The name of a symbol: no bytes where the image has no symbol table.

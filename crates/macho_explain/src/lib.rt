@@ -17,7 +17,6 @@ mod header;
 mod home;
 mod identity;
 mod item;
-mod kinds;
 mod labels;
 pub mod linked_law;
 mod names;

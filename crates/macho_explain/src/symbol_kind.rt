@@ -3,18 +3,19 @@
 
 ghost use Rattle.std.specs.Prelude.{◌≡◌, MatchOption};
 ghost use Rattle.macho_fields.specs.declared.rule.Rule.{Rule};
+ghost use Rattle.macho_alike.specs.SymbolModels.{SymbolKind, IsOfType, group_of};
 ghost use Rattle.macho_explain.specs.Alike.{groups_in, IsGroupShownIn, IsKindSeen, IsMisgroupedIn, IsStringShown};
 ghost use Rattle.macho_explain.specs.Explained.{ExplainsIn};
 
 use crate::conflict::Conflict;
 use crate::explanation::Explanation;
-use crate::kinds::{is_misgrouped, own_group};
 use crate::part::PartKind;
 use crate::sliced::Sliced;
 use crate::strings::string_at;
 use crate::symbol::{symbol_here, symbol_with};
+use macho_alike::symbols::{is_external, is_misgrouped, is_of_another};
 use macho_fields::Span;
-use macho_image::Image;
+use macho_image::{Dysymtab, Image};
 
 // The index of the symbol, and the first of the group that its type says, if it is not in exactly that one; or how many
 // bytes the first string has.
@@ -51,6 +52,29 @@ fn other_group(sliced: &Sliced, image: &Image, kind: u8, index: u64) -> Option<C
     let (number, group) = own_group(groups, kind);
     let part = sliced.numbered(PartKind::Group, group, groups.place, Some(number));
     Some(Conflict::against(part, index, group.start))
+}
+
+// The group that the type of a symbol says, and its number.
+fn own_group(groups: Dysymtab, kind: u8) -> (u32, Span)
+    ensures { (of : SymbolKind) × IsOfType kind of × (group_of groups of ≡ (result.1.start, result.1.len)) }
+{
+    if !is_external(kind) {
+        return (0, group(groups.ilocalsym, groups.nlocalsym));
+    }
+    if is_of_another(kind) {
+        return (2, group(groups.iundefsym, groups.nundefsym));
+    }
+    (1, group(groups.iextdefsym, groups.nextdefsym))
+}
+
+// So many symbols from an index on.
+fn group(first: u64, count: u64) -> Span
+    ensures { (result.start ≡ first) × (result.len ≡ count) }
+{
+    Span {
+        start: first,
+        len: count,
+    }
 }
 
 // The first string, and how many bytes it has.

@@ -1,7 +1,7 @@
 use Rattle.std.proofs.Common.{ap₂, sym}
 use Rattle.std.proofs.lemmas.Bool.{both_ways}
 use Rattle.macho_alike.specs.SymbolModels.{Defined, Local, Undefined}
-use Rattle.macho_explain.proofs.kinds.own_group.Goals as goal
+use Rattle.macho_explain.proofs.symbol_kind.own_group.Goals as goal
 
 pub returns-then-not-is_external : goal.returns-then-not-is_external
 returns-then-not-is_external c = (
