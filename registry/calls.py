@@ -57,9 +57,11 @@ def rust_lines(calls: List[Call], structures: Dict[str, str]) -> List[str]:
 
 
 def rust_rows(calls: List[Call], structures: Dict[str, str]) -> List[str]:
-    """The calls that read rows, each with its row."""
-    return [f"    {_rust_type(call.arguments[4][0], structures)[len('*mut '):]}: {call.name},"
-            for call in calls if call.reads_rows()]
+    """The calls that read rows, each with its row and its cursor."""
+    def to(call: Call, argument: int) -> str:
+        return _rust_type(call.arguments[argument][0], structures)[len("*mut "):]
+
+    return [f"    {to(call, 4)}: {call.name} by {to(call, 3)}," for call in calls if call.reads_rows()]
 
 
 def _rust_declaration(call: Call, structures: Dict[str, str]) -> List[str]:

@@ -98,6 +98,43 @@ def lines_of(path: Path, nm: str, objdump: str) -> list[str]:
     return [line_of(address, sections, symbols) for address in sorted(addresses)]
 
 
+# Fixups
+
+# The tables of opcodes of llvm-objdump, in the order of a loader, and the option that prints each.
+TABLES = {"Rebase": "--rebase", "Bind": "--bind", "Weak bind": "--weak-bind", "Lazy bind": "--lazy-bind"}
+
+
+def target_of(image: oracle.Image, address: int) -> int:
+    """The number in the 8 bytes of the file at an address."""
+    segment = next(it for it in image.segments if it.vmaddr <= address < it.vmaddr + it.vmsize)
+    place = segment.fileoff + address - segment.vmaddr
+    return int.from_bytes(image.data[place:place + 8], "little")
+
+
+def opcode_lines(text: str, image: oracle.Image) -> list[str]:
+    """The address of each pointer of the tables of opcodes, and the name that it binds, or the address to which it
+    points. A strong definition of the weak table binds no pointer."""
+    words = re.split(rf"^({'|'.join(TABLES)}) table:\n.*\n", text, flags=re.MULTILINE)
+    tables = dict(zip(words[1::2], words[2::2]))
+    rows = [(name, line.split()) for name in TABLES for line in tables[name].splitlines() if " strong " not in line]
+    return [f"{int(row[2], 16):#x} {target_of(image, int(row[2], 16)):#x}" if name == "Rebase"
+            else f"{int(row[2], 16):#x} {row[-1]}" for name, row in rows if row]
+
+
+def chain_lines(text: str) -> list[str]:
+    """The same of chains."""
+    rows = re.findall(r"(0x[0-9A-F]+) +0x[0-9A-F]+ (bind|rebase) .*?(\S+)(?: \(weak import\))?$", text, re.MULTILINE)
+    return [f"{int(address, 16):#x} {name if kind == 'bind' else hex(int(name, 16))}" for address, kind, name in rows]
+
+
+def fixup_lines(path: Path, objdump: str) -> list[str]:
+    """What llvm-objdump lists of the fixups of the first slice that is read."""
+    arch = f"--arch={first_architecture(path)}"
+    image = next(image for image in oracle.File(path.read_bytes()).slices if image.is_64_bit)
+    chains = chain_lines(said(objdump, "--macho", "--dyld-info", arch, str(path)))
+    return chains or opcode_lines(said(objdump, "--macho", *TABLES.values(), arch, str(path)), image)
+
+
 # Parts
 
 

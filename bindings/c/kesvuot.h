@@ -763,6 +763,96 @@ uint32_t kesvuot_find_symbol(const void *file, size_t size, const struct kesvuot
 uint32_t kesvuot_find_name(const void *file, size_t size, const struct kesvuot_image *image, const void *name,
                            size_t name_size, struct kesvuot_symbol *symbol, uint64_t *number);
 
+/* Fixups
+ *
+ * The pointers that a dynamic loader writes before it runs an image, by LC_DYLD_CHAINED_FIXUPS if the image has that
+ * command, otherwise by LC_DYLD_INFO or LC_DYLD_INFO_ONLY. The rows are the same: a caller need not know which of the
+ * commands the image has.
+ *
+ * A bind has the index of its import and no name: many pointers can bind one import, and to find the end of its name
+ * again for each of them would take more than linear time. Read the imports once, and keep the rows.
+ */
+
+/* Where the next row is, of kesvuot_read_fixups or kesvuot_read_imports: zeros before the first. Use it for one of the
+ * two calls and one image. */
+struct kesvuot_fixup_cursor { /* the numbers are the library's own, and any are safe */
+    uint64_t stream;
+    uint64_t place;
+    uint64_t commands;
+    uint64_t segment;
+    uint64_t offset;
+    uint64_t page;
+    uint64_t left;
+    uint64_t skip;
+    uint64_t name;
+    uint64_t name_size;
+    int64_t library;
+    int64_t addend;
+    uint64_t import;
+    uint32_t flags;
+    uint32_t is_new;
+    uint32_t has_segment;
+    uint32_t has_name;
+};
+
+struct kesvuot_import {       /* what pointers are bound to. Only the linked profile judges it */
+    struct kesvuot_span name; /* any bytes */
+    int64_t library;          /* counted from 1 on in the order of kesvuot_read_libraries: at most library_count. 0: the
+                                 image itself; -1: the program; -2: all images in their order; -3: all images, whose
+                                 weak definitions count as one, as for all imports of weak binds. In a file that linked
+                                 refuses any number: 2^63 and more is given as 2^63 - 1 */
+    int64_t addend;           /* added to the address that is found. Any number */
+    uint32_t weak;            /* 1: the pointer is 0 if the name is not found. 0: then the image is not loaded */
+    uint32_t reserved;
+};
+
+/* What is written to a pointer: `kind` of struct kesvuot_fixup. */
+enum {
+    KESVUOT_REBASE = 1, /* an address of the image itself, which moves with it */
+    KESVUOT_BIND = 2    /* the address of what an import names */
+};
+
+struct kesvuot_fixup {         /* a pointer of 8 bytes. Only the linked profile judges it */
+    uint64_t address;          /* of the pointer, before any slide: vmaddr + offset of its segment, modulo 2^64 */
+    uint64_t offset;           /* in its segment, and in `bytes` of the segment: all 8 bytes are there, in any file */
+    uint64_t target;           /* REBASE: the address to which it points, before any slide. Any number. Otherwise 0 */
+    uint64_t import;           /* BIND: the index of the row that kesvuot_read_imports writes. Otherwise 0 */
+    int64_t addend;            /* BIND: what is added in all to the address that is found: the addend of the import, and
+                                  what the pointer adds itself. Any number. Otherwise 0 */
+    uint32_t segment;          /* the index of its segment, in the order of kesvuot_read_segments */
+    uint32_t kind;             /* KESVUOT_REBASE or KESVUOT_BIND */
+    uint16_t diversity;        /* authenticated: a number with which the pointer is signed. Any number. Otherwise 0 */
+    uint8_t address_diversity; /* authenticated: 1 if it is signed with its own address too. Otherwise 0 */
+    uint8_t key;               /* authenticated: the key, 0 to 3 (IA, IB, DA, DB). Otherwise 0 */
+    uint32_t authenticated;    /* 1: the pointer is signed (arm64e). Otherwise 0 */
+};
+
+/* The pointers that a loader writes, each write once and in the order of a loader, in batches as of the tables of an
+ * image. In a file that the linked profile accepts no write is left out.
+ *
+ * By opcodes: the pointers of the rebase stream, then of the bind, the weak bind and the lazy bind stream. A rebase has
+ * the number in its 8 bytes of the file as its target. A stream ends before the first opcode that linked refuses by
+ * rebase-opcode or bind-opcode, and the next stream follows. The pointers of an opcode end before the first that is not
+ * in the bytes of its segment, and the next opcode follows.
+ *
+ * By chains: segment by segment, page by page, along each chain. In a file that linked refuses all rows end before the
+ * first segment whose starts break chain-starts. They also end before the first pointer that is not in its page and the
+ * bytes of its segment, whose next one begins in its own bytes, or whose import is not in the table.
+ *
+ * Each call reads the load commands, and then takes time in proportion to the rows that it writes and what it passes to
+ * find them. It takes no memory. */
+size_t kesvuot_read_fixups(const void *file, size_t size, const struct kesvuot_image *image,
+                           struct kesvuot_fixup_cursor *cursor, struct kesvuot_fixup *rows, size_t max);
+
+/* The imports, to which pointers are bound, in batches as of the tables of an image. By opcodes: a row for each opcode
+ * that binds a pointer, of the bind, the weak bind and the lazy bind stream in turn. Two rows can have one name.
+ *
+ * By chains: the imports of the table. A stream ends where kesvuot_read_fixups says. In a file that linked refuses the
+ * imports of a table end before the first whose name does not end in the table, or with which the names have more bytes
+ * than the table. */
+size_t kesvuot_read_imports(const void *file, size_t size, const struct kesvuot_image *image,
+                            struct kesvuot_fixup_cursor *cursor, struct kesvuot_import *rows, size_t max);
+
 /* Exports
  *
  * What an image offers to other images under a name, by its export trie. Only the linked profile judges the trie. */
@@ -1163,6 +1253,9 @@ KESVUOT_HOLDS(sizeof(struct kesvuot_cdhash) == 56);
 KESVUOT_HOLDS(sizeof(struct kesvuot_export) == 56);
 KESVUOT_HOLDS(sizeof(struct kesvuot_export_node) == 112);
 KESVUOT_HOLDS(sizeof(struct kesvuot_export_edge) == 24);
+KESVUOT_HOLDS(sizeof(struct kesvuot_fixup_cursor) == 120);
+KESVUOT_HOLDS(sizeof(struct kesvuot_import) == 40);
+KESVUOT_HOLDS(sizeof(struct kesvuot_fixup) == 56);
 KESVUOT_HOLDS(offsetof(struct kesvuot_verdict, rule) == 16);
 KESVUOT_HOLDS(offsetof(struct kesvuot_part, kind) == 24);
 KESVUOT_HOLDS(offsetof(struct kesvuot_explanation, value) == 96);
@@ -1187,6 +1280,10 @@ KESVUOT_HOLDS(offsetof(struct kesvuot_code_directory, page_size) == 94);
 KESVUOT_HOLDS(offsetof(struct kesvuot_cdhash, size) == 48);
 KESVUOT_HOLDS(offsetof(struct kesvuot_export, ordinal) == 24);
 KESVUOT_HOLDS(offsetof(struct kesvuot_export_node, has_export) == 104);
+KESVUOT_HOLDS(offsetof(struct kesvuot_fixup_cursor, flags) == 104);
+KESVUOT_HOLDS(offsetof(struct kesvuot_import, weak) == 32);
+KESVUOT_HOLDS(offsetof(struct kesvuot_fixup, segment) == 40);
+KESVUOT_HOLDS(offsetof(struct kesvuot_fixup, diversity) == 48);
 #undef KESVUOT_HOLDS
 #endif
 

@@ -232,6 +232,10 @@ type (
 	exportRow     = C.struct_kesvuot_export
 	exportNodeRow = C.struct_kesvuot_export_node
 	exportEdgeRow = C.struct_kesvuot_export_edge
+
+	fixupCursor = C.struct_kesvuot_fixup_cursor
+	fixupRow    = C.struct_kesvuot_fixup
+	importRow   = C.struct_kesvuot_import
 )
 
 const (
@@ -242,6 +246,7 @@ const (
 	hasDysymtab = C.KESVUOT_HAS_DYSYMTAB
 	hasID       = C.KESVUOT_HAS_ID
 	noSection   = C.KESVUOT_NO_SECTION
+	bindKind    = C.KESVUOT_BIND
 )
 
 // partOf returns the bytes of a span, which has a capacity of no more than these.
@@ -293,6 +298,28 @@ func readUncounted[Row any](image *Image, table table) (all []Row) {
 		rows := readRows[Row](image, table, &cursor, batch)
 		all = append(all, rows...)
 		if len(rows) < batch {
+			return all
+		}
+	}
+}
+
+// readFixups returns up to count of the next pointers that a loader writes.
+func readFixups(image *Image, cursor *fixupCursor, count int) []fixupRow {
+	rows := make([]fixupRow, count)
+	written := C.kesvuot_read_fixups(unsafe.Pointer(&image.file[0]), C.size_t(len(image.file)), &image.numbers, cursor,
+		&rows[0], C.size_t(count))
+	return rows[:written]
+}
+
+// readImports returns all that the pointers are bound to.
+func readImports(image *Image) (all []importRow) {
+	var cursor fixupCursor
+	for {
+		rows := make([]importRow, batch)
+		written := C.kesvuot_read_imports(unsafe.Pointer(&image.file[0]), C.size_t(len(image.file)), &image.numbers,
+			&cursor, &rows[0], batch)
+		all = append(all, rows[:written]...)
+		if written < batch {
 			return all
 		}
 	}

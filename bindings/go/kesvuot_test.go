@@ -954,7 +954,14 @@ func readAll(t *testing.T, file *File) {
 		symbols := image.Symbols()
 		same(t, "how many symbols", len(symbols), int(image.numbers.symbol_count))
 		compareTables(t, image)
-		sections := image.Sections()
+		segments, sections := image.Segments(), image.Sections()
+		imports, fixups := len(image.Imports()), image.Fixups()
+		// There can be many.
+		for count := 0; count < 3*batch && fixups.Next(); count++ {
+			fixup := fixups.Fixup()
+			same(t, "whether a fixup has an import", fixup.IsBind && fixup.Import < uint64(imports), fixup.IsBind)
+			same(t, "the bytes of a pointer", len(segments[fixup.Segment].Bytes[fixup.Offset:fixup.Offset+8]), 8)
+		}
 		for index := range sections {
 			same(t, "how many relocations", len(image.Relocations(&sections[index])), int(sections[index].Nreloc))
 		}
@@ -967,7 +974,7 @@ func readAll(t *testing.T, file *File) {
 			}
 		}
 		same(t, "how many rows", []int{
-			len(image.Commands()), len(image.Segments()), len(sections), len(image.Libraries()), len(image.Builds()),
+			len(image.Commands()), len(segments), len(sections), len(image.Libraries()), len(image.Builds()),
 			len(image.Indirects()),
 		}, []int{
 			int(image.numbers.command_count), int(image.numbers.segment_count), int(image.numbers.section_count),

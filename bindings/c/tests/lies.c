@@ -95,12 +95,12 @@ static void take_names(const struct kesvuot_image *image, size_t size) {
     }
 }
 
-// Asks for three batches of rows of a table, and takes what this says of each row of the last. Rows past those that were written stay as they were.
-#define TAKE_TABLE(row_type, call, take_row)                                      \
+// Asks for three batches of rows of a table from a cursor on, and takes what this says of each row of the last. Rows past those that were written stay as they were.
+#define TAKE_ROWS(row_type, cursor_type, begin, call, take_row)                   \
     do {                                                                          \
         row_type rows[MOST_ROWS + 1], untouched;                                  \
         memset(&untouched, 0x5a, sizeof untouched);                               \
-        struct kesvuot_cursor cursor = some_cursor();                             \
+        cursor_type cursor = begin;                                               \
         size_t written = 0;                                                       \
         for (int batch = 0; batch < 3; batch++) {                                 \
             memset(rows, 0x5a, sizeof rows);                                      \
@@ -114,6 +114,9 @@ static void take_names(const struct kesvuot_image *image, size_t size) {
         }                                                                         \
         calls++;                                                                  \
     } while (0)
+
+// The same of a table of an image, from any cursor on.
+#define TAKE_TABLE(row_type, call, take_row) TAKE_ROWS(row_type, struct kesvuot_cursor, some_cursor(), call, take_row)
 
 // The hash of any bytes of the file as a code directory. There is none where they are no code directory.
 static void take_cdhash(const struct kesvuot_blob *blob, size_t size, uint32_t directory_status) {
@@ -152,6 +155,46 @@ static void take_tables(const struct kesvuot_image *image, size_t size) {
     TAKE_TABLE(struct kesvuot_data_in_code, kesvuot_read_data_in_code,
                (take(row->bytes, size), CHECK(row->bytes.size == 0 || row->bytes.size == row->length)));
     TAKE_TABLE(struct kesvuot_blob, kesvuot_read_blobs, (take(row->bytes, size), take_code_directory(row, size)));
+}
+
+static struct kesvuot_fixup_cursor any_fixup_cursor(void) {
+    return (struct kesvuot_fixup_cursor){
+        .stream = lie(draw_below(5)),
+        .place = lie(draw_below(0x400)),
+        .commands = lie(draw_below(12)),
+        .segment = lie(draw_below(5)),
+        .offset = lie(draw_below(0x400)),
+        .page = lie(draw_below(3)),
+        .left = lie(draw_below(9)),
+        .skip = lie(draw_below(0x400)),
+        .name = lie(draw_below(0x400)),
+        .name_size = lie(draw_below(0x40)),
+        .has_segment = (uint32_t)lie(draw_below(2)),
+        .has_name = (uint32_t)lie(draw_below(2)),
+    };
+}
+
+// From the first row on, each pointer is in the bytes of its segment.
+static void take_fixup(const struct kesvuot_image *image, size_t size, const struct kesvuot_fixup *row) {
+    struct kesvuot_cursor cursor = {0};
+    struct kesvuot_segment segment = {.vmaddr = 0};
+    size_t found = 1;
+    for (uint32_t index = 0; found == 1 && index <= row->segment; index++) {
+        found = kesvuot_read_segments(file.bytes, size, image, &cursor, &segment, 1);
+    }
+    CHECK(found == 1 && segment.bytes.size >= 8 && row->offset <= segment.bytes.size - 8);
+    CHECK(row->address == segment.vmaddr + row->offset);
+}
+
+static void take_fixups(const struct kesvuot_image *image, size_t size) {
+    const size_t max = draw_below(MOST_ROWS + 1);
+    const struct kesvuot_fixup_cursor first = {0};
+    TAKE_ROWS(struct kesvuot_fixup, struct kesvuot_fixup_cursor, first, kesvuot_read_fixups,
+              take_fixup(image, size, row));
+    TAKE_ROWS(struct kesvuot_fixup, struct kesvuot_fixup_cursor, any_fixup_cursor(), kesvuot_read_fixups,
+              CHECK(row->kind == KESVUOT_REBASE || row->kind == KESVUOT_BIND));
+    TAKE_ROWS(struct kesvuot_import, struct kesvuot_fixup_cursor, any_fixup_cursor(), kesvuot_read_imports,
+              (take(row->name, size), CHECK(row->weak < 2 && row->reserved == 0)));
 }
 
 // The relocations of any section.
@@ -316,6 +359,7 @@ static void take_data(const struct kesvuot_image *image, size_t size) {
 static void take_all(const struct kesvuot_image *image, size_t size) {
     struct kesvuot_span bytes;
     take_tables(image, size);
+    take_fixups(image, size);
     take_names(image, size);
     take_relocations(image, size);
     take_bounded(image, size);

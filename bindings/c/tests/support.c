@@ -301,6 +301,19 @@ static size_t read_export_edges(const struct file *file, const struct kesvuot_im
     return kesvuot_read_export_edges(file->bytes, file->size, &trie, &node.edges, rows, BATCH);
 }
 
+// How many of the first pointers that a loader writes there are, and how many of the first imports.
+static size_t read_fixups(const struct file *file, const struct kesvuot_image *image) {
+    static struct kesvuot_fixup rows[BATCH];
+    struct kesvuot_fixup_cursor cursor = {0};
+    return kesvuot_read_fixups(file->bytes, file->size, image, &cursor, rows, BATCH);
+}
+
+static size_t read_imports(const struct file *file, const struct kesvuot_image *image) {
+    static struct kesvuot_import rows[BATCH];
+    struct kesvuot_fixup_cursor cursor = {0};
+    return kesvuot_read_imports(file->bytes, file->size, image, &cursor, rows, BATCH);
+}
+
 const struct view views[] = {
     {"read_commands", read_commands}, {"read_segments", read_segments}, {"read_sections", read_sections},
     {"read_libraries", read_libraries}, {"read_builds", read_builds}, {"read_symbols", read_symbols},
@@ -311,5 +324,6 @@ const struct view views[] = {
     {"read_data_in_code", read_data_in_code}, {"find_export", find_export}, {"find_export_trie", find_export_trie},
     {"read_export_node", read_export_node}, {"read_export_edges", read_export_edges}, {"read_blobs", read_blobs},
     {"read_code_directory", read_code_directory}, {"read_cdhash", read_cdhash}, {"find_thread_entry", find_thread_entry},
+    {"read_fixups", read_fixups}, {"read_imports", read_imports},
 };
 const size_t view_count = sizeof views / sizeof *views;

@@ -38,6 +38,9 @@ pub const NO_SECTION: u32 = u32::MAX;
 /// `KESVUOT_NO_INDEX`
 pub const NO_INDEX: u32 = u32::MAX;
 
+/// `KESVUOT_REBASE`: any other fixup is a bind.
+pub const REBASE: u32 = 1;
+
 /// Room for the longest hash. Only shorter arrays have a default.
 #[repr(transparent)]
 #[derive(Clone, Copy)]
@@ -279,6 +282,48 @@ structures! {
     kesvuot_export_edge = ExportEdge {
         label: Span,
         child: u64,
+    }
+
+    kesvuot_fixup_cursor = FixupCursor {
+        stream: u64,
+        place: u64,
+        commands: u64,
+        segment: u64,
+        offset: u64,
+        page: u64,
+        left: u64,
+        skip: u64,
+        name: u64,
+        name_size: u64,
+        library: i64,
+        addend: i64,
+        import: u64,
+        flags: u32,
+        is_new: u32,
+        has_segment: u32,
+        has_name: u32,
+    }
+
+    kesvuot_import = Import {
+        name: Span,
+        library: i64,
+        addend: i64,
+        weak: u32,
+        reserved: u32,
+    }
+
+    kesvuot_fixup = Fixup {
+        address: u64,
+        offset: u64,
+        target: u64,
+        import: u64,
+        addend: i64,
+        segment: u32,
+        kind: u32,
+        diversity: u16,
+        address_diversity: u8,
+        key: u8,
+        authenticated: u32,
     }
 }
 
@@ -576,19 +621,22 @@ pub fn image(file: &[u8], slice: u64) -> (u32, Image) {
 
 /// A row of one of the tables of an image.
 pub trait Raw: Copy + Default {
+    /// Where the next row is: zeros before the first.
+    type Cursor: Copy + Default;
+
     /// Writes the next rows, moves the cursor past them, and returns how many it wrote.
-    fn fill(file: &[u8], image: &Image, cursor: &mut Cursor, rows: &mut [Self]) -> usize;
+    fn fill(file: &[u8], image: &Image, cursor: &mut Self::Cursor, rows: &mut [Self]) -> usize;
 }
 
 /// Declares the calls that read tables, each for its row.
 macro_rules! tables {
-    ($($row:ty: $call:ident,)*) => {
+    ($($row:ty: $call:ident by $cursor:ty,)*) => {
         extern "C" {
             $(fn $call(
                 file: *const c_void,
                 size: usize,
                 image: *const Image,
-                cursor: *mut Cursor,
+                cursor: *mut $cursor,
                 rows: *mut $row,
                 max: usize,
             ) -> usize;)*
@@ -596,10 +644,12 @@ macro_rules! tables {
 
         $(
             impl Raw for $row {
+                type Cursor = $cursor;
+
                 fn fill(
                     file: &[u8],
                     image: &Image,
-                    cursor: &mut Cursor,
+                    cursor: &mut $cursor,
                     rows: &mut [Self],
                 ) -> usize {
                     let (at, size) = (file.as_ptr().cast(), file.len());
@@ -614,16 +664,18 @@ macro_rules! tables {
 
 tables! {
     // registry: rows
-    Command: kesvuot_read_commands,
-    Segment: kesvuot_read_segments,
-    Section: kesvuot_read_sections,
-    Library: kesvuot_read_libraries,
-    Build: kesvuot_read_builds,
-    Symbol: kesvuot_read_symbols,
-    u32: kesvuot_read_indirects,
-    u64: kesvuot_read_function_starts,
-    DataInCode: kesvuot_read_data_in_code,
-    Blob: kesvuot_read_blobs,
+    Command: kesvuot_read_commands by Cursor,
+    Segment: kesvuot_read_segments by Cursor,
+    Section: kesvuot_read_sections by Cursor,
+    Library: kesvuot_read_libraries by Cursor,
+    Build: kesvuot_read_builds by Cursor,
+    Symbol: kesvuot_read_symbols by Cursor,
+    u32: kesvuot_read_indirects by Cursor,
+    u64: kesvuot_read_function_starts by Cursor,
+    DataInCode: kesvuot_read_data_in_code by Cursor,
+    Blob: kesvuot_read_blobs by Cursor,
+    Fixup: kesvuot_read_fixups by FixupCursor,
+    Import: kesvuot_read_imports by FixupCursor,
     // registry: end
 }
 

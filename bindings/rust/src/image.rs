@@ -4,6 +4,7 @@ use core::fmt;
 
 use crate::exports::Exports;
 use crate::ffi::{self, Raw, Span};
+use crate::fixups::{Fixup, Import};
 use crate::parts::{
     Build, Command, DataInCode, Export, Indirect, Library, Relocation, Section, Segment, Table,
 };
@@ -444,7 +445,10 @@ impl<'a> Image<'a> {
     }
 
     /// One row of a table whose rows are found by their index.
-    fn row<T: Row<'a>>(&self, index: u64) -> Option<T> {
+    fn row<T: Row<'a>>(&self, index: u64) -> Option<T>
+    where
+        T::Raw: Raw<Cursor = ffi::Cursor>,
+    {
         let mut row = [T::Raw::default()];
         let mut cursor = ffi::Cursor {
             items: index,
@@ -516,6 +520,35 @@ impl<'a> Image<'a> {
     /// executable segment. In any other they can be of no code.
     #[must_use]
     pub fn data_in_code(&self) -> UncountedRows<'a, DataInCode<'a>> {
+        UncountedRows::new(*self)
+    }
+
+    /// The pointers that a dynamic loader writes, in the order in which it writes them: by `LC_DYLD_CHAINED_FIXUPS` if
+    /// the image has that command, otherwise by the opcodes of `LC_DYLD_INFO` or `LC_DYLD_INFO_ONLY`. In a file that
+    /// [`Profile::Linked`](crate::Profile::Linked) accepts none is left out, and there are fewer than the file has
+    /// bytes. In any other `kesvuot.h` says at `kesvuot_read_fixups` where they end, and there can be 2^64 of them.
+    ///
+    /// ```
+    /// # let path = concat!(env!("CARGO_MANIFEST_DIR"), "/../../tests/real/program");
+    /// # let file = std::fs::read(path)?;
+    /// # let image = kesvuot::verify(&file, kesvuot::Profile::Layout)?.image(0).unwrap();
+    /// let imports: Vec<_> = image.imports().collect();
+    /// for fixup in image.fixups() {
+    ///     if let kesvuot::FixupTarget::Bind { import, .. } = fixup.target {
+    ///         assert!(imports[usize::try_from(import)?].name.starts_with(b"_"));
+    ///     }
+    /// }
+    /// # Ok::<(), Box<dyn std::error::Error>>(())
+    /// ```
+    #[must_use]
+    pub fn fixups(&self) -> UncountedRows<'a, Fixup> {
+        UncountedRows::new(*self)
+    }
+
+    /// What the binds among the [`fixups`](Image::fixups) are bound to. Chained fixups have a table of them. Each
+    /// opcode that binds pointers has a row, so two rows can have one name.
+    #[must_use]
+    pub fn imports(&self) -> UncountedRows<'a, Import<'a>> {
         UncountedRows::new(*self)
     }
 

@@ -65,6 +65,7 @@ mod exports;
 mod ffi;
 #[cfg(feature = "std")]
 mod file;
+mod fixups;
 mod image;
 mod named_symbols;
 mod parts;
@@ -81,6 +82,7 @@ pub use explain::{explain, Explanation, Part, PartKind};
 pub use exports::Exports;
 #[cfg(feature = "std")]
 pub use file::{verify_file, FileError};
+pub use fixups::{Authentication, Fixup, FixupTarget, Import};
 pub use image::{Dysymtab, Image, Source, Symtab};
 pub use named_symbols::NamedSymbols;
 pub use parts::{

@@ -35,7 +35,10 @@ pub struct Rows<'a, T: Row<'a>> {
     left: u64,
 }
 
-impl<'a, T: Row<'a>> Rows<'a, T> {
+impl<'a, T: Row<'a>> Rows<'a, T>
+where
+    T::Raw: Raw<Cursor = Cursor>,
+{
     /// The first rows of a table.
     pub(crate) fn new(image: Image<'a>, count: u64) -> Self {
         Rows {
@@ -96,7 +99,10 @@ fn to_usize(count: u64) -> usize {
     usize::try_from(count).unwrap_or(usize::MAX)
 }
 
-impl<'a, T: Row<'a>> Iterator for Rows<'a, T> {
+impl<'a, T: Row<'a>> Iterator for Rows<'a, T>
+where
+    T::Raw: Raw<Cursor = Cursor>,
+{
     type Item = T;
 
     fn next(&mut self) -> Option<T> {
@@ -128,11 +134,14 @@ impl<'a, T: Row<'a>> Iterator for Rows<'a, T> {
     }
 }
 
-impl<'a, T: Row<'a>> ExactSizeIterator for Rows<'a, T> {}
+impl<'a, T: Row<'a>> ExactSizeIterator for Rows<'a, T> where T::Raw: Raw<Cursor = Cursor> {}
 
-impl<'a, T: Row<'a>> FusedIterator for Rows<'a, T> {}
+impl<'a, T: Row<'a>> FusedIterator for Rows<'a, T> where T::Raw: Raw<Cursor = Cursor> {}
 
-impl<'a, T: Row<'a>> fmt::Debug for Rows<'a, T> {
+impl<'a, T: Row<'a>> fmt::Debug for Rows<'a, T>
+where
+    T::Raw: Raw<Cursor = Cursor>,
+{
     fn fmt(&self, f: &mut fmt::Formatter<'_>) -> fmt::Result {
         f.debug_struct("Rows").field("len", &self.len()).finish()
     }
@@ -145,7 +154,7 @@ pub struct UncountedRows<'a, T: Row<'a>> {
     /// Rows that were read and not yet returned.
     held: vec::IntoIter<T::Raw>,
     /// Where the rows after them are.
-    cursor: Cursor,
+    cursor: <T::Raw as Raw>::Cursor,
     /// There are no rows after them.
     is_last: bool,
 }
@@ -156,7 +165,7 @@ impl<'a, T: Row<'a>> UncountedRows<'a, T> {
         UncountedRows {
             image,
             held: Vec::new().into_iter(),
-            cursor: Cursor::default(),
+            cursor: <T::Raw as Raw>::Cursor::default(),
             is_last: false,
         }
     }
@@ -205,6 +214,8 @@ mod tests {
     struct Noted(u64);
 
     impl Raw for Noted {
+        type Cursor = Cursor;
+
         fn fill(_: &[u8], _: &ffi::Image, cursor: &mut Cursor, rows: &mut [Self]) -> usize {
             CALLS.with(|calls| calls.borrow_mut().push((cursor.items, rows.len())));
             for row in rows.iter_mut() {

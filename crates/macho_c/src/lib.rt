@@ -14,6 +14,7 @@ mod explain;
 mod export_nodes;
 mod export_trie;
 mod exports;
+mod fixups;
 mod function_starts;
 mod image;
 mod layout;

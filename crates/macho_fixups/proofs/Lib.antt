@@ -1,0 +1,13 @@
+pub mod AllFixups
+pub mod ChainImportRows
+pub mod ChainLoader
+pub mod ChainSegments
+pub mod ChainWalks
+pub mod Cursors
+pub mod Joined
+pub mod LoaderWrites
+pub mod NearRooms
+pub mod OpcodeRows
+pub mod StepLists
+pub mod StreamLists
+pub mod WalkLists

@@ -1,0 +1,10 @@
+pub mod Batch
+pub mod ChainLoader
+pub mod ChainedFixups
+pub mod ChainedImports
+pub mod ChainedPointers
+pub mod Fixups
+pub mod Locations
+pub mod Opcodes
+pub mod Streams
+pub mod Walks
