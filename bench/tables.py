@@ -1,5 +1,5 @@
 """What the programs of this folder that measure have in common: the library, times of the processor, tables in CSV, and
-the folders of tests/, which are found once this is imported."""
+the folders of tests/ and packaging/vectors, which are found once this is imported."""
 
 from __future__ import annotations
 
@@ -11,7 +11,7 @@ import sys
 from pathlib import Path
 
 TOP = Path(__file__).resolve().parent.parent
-sys.path.insert(1, str(TOP / "tests"))
+sys.path[1:1] = [str(TOP / "tests"), str(TOP / "packaging/vectors")]
 
 
 def library_folder(script: str) -> Path:
