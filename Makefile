@@ -73,7 +73,8 @@ install-programs: built
 
 # The library alone, which `make lib` builds, with the command kesvuot.
 install-lib: built-lib
-	install -d $(TO_LIB)/pkgconfig $(TO_LIB)/cmake/kesvuot $(TO_INCLUDE) $(TO_MAN)/man3 $(TO_DOC)/rules $(TO_PYTHON)/kesvuot
+	install -d $(TO_LIB)/pkgconfig $(TO_LIB)/cmake/kesvuot $(TO_INCLUDE) $(TO_MAN)/man3 $(TO_PYTHON)/kesvuot
+	install -d $(TO_DOC)/rules $(TO_DOC)/guide
 	install -d $(TO_BIN) $(TO_MAN)/man1 $(TO_BASH) $(TO_ZSH) $(TO_FISH)
 	install -m 644 build/lib/libkesvuot.a build/lib/libkesvuot.so.2 $(TO_LIB)
 	ln -sf libkesvuot.so.2 $(TO_LIB)/libkesvuot.so
@@ -87,6 +88,8 @@ install-lib: built-lib
 	install -m 644 man/kesvuot.3 $(TO_MAN)/man3
 	for call in $(CALLS); do ln -sf kesvuot.3 $(TO_MAN)/man3/$$call.3 || exit; done
 	packaging/pages $(TO_DOC)/rules docs/rules/*.md
+	packaging/pages $(TO_DOC)/guide docs/guide/policies.md
+	install -m 644 docs/policy.schema.json $(TO_DOC)
 	$(FILL_TOOL) packaging/kesvuot.in >$(TO_BIN)/kesvuot
 	chmod 755 $(TO_BIN)/kesvuot
 	install -m 644 man/kesvuot.1 $(TO_MAN)/man1
@@ -104,7 +107,7 @@ uninstall:
 	rm -f $(TO_INCLUDE)/kesvuot.h
 	rm -rf $(TO_LIB)/cmake/kesvuot $(TO_PYTHON)/kesvuot
 	rm -f $(TO_MAN)/man3/kesvuot.3
-	rm -rf $(TO_DOC)/rules
+	rm -rf $(TO_DOC)/rules $(TO_DOC)/guide $(TO_DOC)/policy.schema.json
 	for call in $(CALLS); do rm -f $(TO_MAN)/man3/$$call.3; done
 	rmdir $(TO_DOC) 2>/dev/null || :
 
@@ -116,10 +119,14 @@ deb: built
 dist: built
 	@packaging/pack dist "$(OUT)"
 
+# The vectors, for those who test another reader. It needs nothing that is built.
+vectors:
+	@packaging/vectors/pack "$(OUT)"
+
 built:
 	@packaging/built $(PROGRAMS) libkesvuot
 
 built-lib:
 	@packaging/built libkesvuot
 
-.PHONY: all lib check test bench install install-programs install-lib uninstall deb dist built built-lib
+.PHONY: all lib check test bench install install-programs install-lib uninstall deb dist vectors built built-lib

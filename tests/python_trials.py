@@ -32,13 +32,15 @@ from types import SimpleNamespace
 from fixtures import images, table_mutants
 from fixtures.files import LINKED, SEALED
 from fixtures.notation import read_vectors
-from readers import code_signature, export_trie, plain_dyld
+from readers import code_signature, export_trie
+from readers.fixups import fixups_of, fixups_read
 from reference import HIDDEN, explanations, oracle, oracle_trials
 from support.calling import TOP, wait_until
 from support.programs import MACHO_VERIFY, PROFILES
 from support.rules import read_rules
 
 import kesvuot  # pylint: disable=wrong-import-order
+from kesvuot._rows import BATCH  # pylint: disable=wrong-import-order
 from kesvuot.constants import (  # pylint: disable=wrong-import-order
     LC_CODE_SIGNATURE, LC_DATA_IN_CODE, LC_DYLD_CHAINED_FIXUPS, LC_DYLD_EXPORTS_TRIE, LC_DYSYMTAB, LC_FUNCTION_STARTS,
     LC_LOAD_DYLINKER, LC_RPATH, LC_SOURCE_VERSION, LC_SYMTAB, LC_VERSION_MIN_IPHONEOS, LC_VERSION_MIN_MACOSX,
@@ -1063,8 +1065,7 @@ def made(name):
 
 def judge_tables(report):
     """A table longer than two batches, by its indexes and by its slices."""
-    batch = kesvuot._rows.BATCH  # pylint: disable=protected-access
-    count = 2 * batch + 5
+    count = 2 * BATCH + 5
     data = made(f"symbols-{count}")
     table = kesvuot.verify(data).images[0].symbols
     rows = list(wanted_symbols(oracle.File(data).slices[0]))
@@ -1076,7 +1077,7 @@ def judge_tables(report):
     report.case("a long table: its rows differ", len(set(rows)) > count // 2, True)
     report.case("a long table in a loop", read(table) == rows, True)
     report.case("a long table by indexes", read(table[index] for index in range(count)) == rows, True)
-    for key in (slice(3, 5), slice(batch - 1, batch + 1), slice(1, 2 * batch + 2), slice(None, None, 1000),
+    for key in (slice(3, 5), slice(BATCH - 1, BATCH + 1), slice(1, 2 * BATCH + 2), slice(None, None, 1000),
                 slice(None, None, -999), slice(-3, None), slice(5, 5), slice(7, 3), slice(count, count + 9)):
         report.case(f"a long table: {key}", read(table[key]) == rows[key], True)
     report.case("a slice of a slice", read(table[10:90][20:30:3]) == rows[10:90][20:30:3], True)
@@ -1110,8 +1111,7 @@ def judge_walked_tables(report):
 
 def judge_uncounted_tables(report):
     """A table whose length nothing says, near the ends of batches: it is one as the others. And a walk begins anew."""
-    batch = kesvuot._rows.BATCH  # pylint: disable=protected-access
-    for count in (1, batch - 1, batch, batch + 1, 2 * batch + 5):
+    for count in (1, BATCH - 1, BATCH, BATCH + 1, 2 * BATCH + 5):
         image = kesvuot.verify(made(f"starts-{count}")).images[0]
         starts = image.function_starts
         wanted = [starts[0] + 16 * index for index in range(count)]
@@ -1123,102 +1123,206 @@ def judge_uncounted_tables(report):
     report.case("a walk again", (len(list(exports)), list(exports) == list(exports)), (10, True))
 
 
-# Opcodes
+# Fixups
 
 
-def with_streams(data_size=256, **streams):
+def with_streams(data_size=256, pointers=None, **streams):
     """The first image of a file with these streams, in hexadecimal. It loads one library, and its segment 1 has the
-    data, at images.FAR."""
+    data, at images.FAR: zeros, and these pointers at their offsets."""
     out = io.BytesIO()
     images.with_opcodes(out, data_size, **{name: bytes.fromhex(words) for name, words in streams.items()})
+    data = bytearray(out.getvalue())
+    start = kesvuot.verify(data).images[0].segments[1].fileoff
+    for offset, pointer in (pointers or {}).items():
+        struct.pack_into("<Q", data, start + offset, pointer)
+    return kesvuot.verify(data).images[0]
+
+
+def offsets_of(image, most=100):
+    """Where the first pointers are in segment 1."""
+    found = [(it.segment, it.offset, it.address - images.FAR) for it in itertools.islice(image.fixups, most)]
+    return [offset for _, offset, _ in found] if found == [(1, offset, offset) for _, offset, _ in found] else found
+
+
+def binds_of(image):
+    """The pointers, each with its import and what is added in all; and the imports."""
+    return ([(it.offset, it.import_index, it.addend) for it in image.fixups],
+            [(it.name.tobytes(), it.library, it.addend, it.weak) for it in image.imports])
+
+
+def judge_fixups(report):
+    """An opcode of each kind, by hand."""
+    rebase = "11 2108 52 3008 41 6002 7010 800208 51 00"
+    rebases = with_streams(pointers={8: 0x1_0000_0010, 40: 2 ** 64 - 1}, rebase=rebase)
+    report.case("rebases, by hand", list(rebases.fixups), [
+        kesvuot.Fixup(images.FAR + offset, 1, offset, target, None, 0, None) for offset, target in (
+            (8, 0x1_0000_0010), (16, 0), (40, 2 ** 64 - 1), (48, 0), (56, 0), (80, 0), (96, 0), (112, 0))])
+    report.case("imports of rebases", list(rebases.imports), [])
+    bind = "11 405f6100 51 7108 90 607e a008 b1 2000 3e 495f6200 c00208 80f8ffffffffffffffff01 90 00"
+    pointers = [(8, 0, 0), (16, 1, -2), (32, 2, -2), (48, 3, -2), (64, 3, -2), (72, 4, -2)]
+    rows = [(b"_a", 1, 0, False), (b"_a", 1, -2, False), (b"_a", 1, -2, False), (b"_b", -2, -2, True),
+            (b"_b", -2, -2, True)]
+    report.case("binds, by hand", binds_of(with_streams(bind=bind)), (pointers, rows))
+    report.case("the same as weak binds", binds_of(with_streams(weak=bind)),
+                (pointers, [(name, -3, addend, weak) for name, _, addend, weak in rows]))
+    lazy = "7110 11 6005 425f6100 90 00 7118 405f6300 51 90 00 00"
+    report.case("lazy binds, by hand", binds_of(with_streams(lazy=lazy)),
+                ([(16, 0, 5), (24, 1, 0)], [(b"_a", 1, 5, False), (b"_c", 0, 0, False)]))
+    report.case("all streams", binds_of(with_streams(lazy=lazy, weak="405f7700 7128 90", bind="405f6200 7120 90",
+                                                     rebase="2130 51")),
+                ([(48, None, 0), (32, 0, 0), (40, 1, 0), (16, 2, 5), (24, 3, 0)],
+                 [(b"_b", 0, 0, False), (b"_w", -3, 0, False), (b"_a", 1, 5, False), (b"_c", 0, 0, False)]))
+    image = with_streams(lazy=lazy)
+    report.case("what is shown of a fixup", str(next(iter(image.fixups))),
+                f"Fixup(address={images.FAR + 16}, segment=1, offset=16, target=None, import_index=0, addend=5, "
+                "authentication=None)")
+    report.case("what is shown of an import", str(next(iter(image.imports))),
+                "Import(name=b'_a', library=1, addend=5, weak=False)")
+    report.case("an image without opcodes", binds_of(with_streams()), ([], []))
+
+
+def chained(form, pointers, starts, imports_format=1, imports=(), names=b"\0"):
+    """The first image of a file with chains of this format: in pages of 4096 bytes of its segment 1, at images.BASE +
+    0x1000, which has these pointers at their offsets."""
+    size = max(pointers) + images.POINTER_SIZE
+    data = bytearray(size)
+    for offset, pointer in pointers.items():
+        struct.pack_into("<Q", data, offset, pointer)
+    segment_starts = struct.pack(f"<I2HQIH{len(starts)}H", 22 + 2 * len(starts), images.PAGE, form, images.PAGE, 0,
+                                 len(starts), *starts)
+    array = struct.pack("<4I", 3, 0, 16, 0)
+    imports_offset = images.FIXUPS_HEADER_SIZE + len(array) + len(segment_starts)
+    listed = b"".join(imports)
+    table = struct.pack("<7I", 0, images.FIXUPS_HEADER_SIZE, imports_offset, imports_offset + len(listed), len(imports),
+                        imports_format, 0) + array + segment_starts + listed + names
+    begin = (images.HEADER_SIZE + 3 * images.SEGMENT_SIZE + images.LIBRARY_SIZE + images.LINKEDIT_DATA_SIZE
+             + images.MAIN_SIZE)
+    commands = images.segment(b"__TEXT", images.BASE, images.PAGE, 0, begin)
+    commands += images.segment(b"__DATA", images.BASE + images.PAGE, -(-size // images.PAGE) * images.PAGE, begin, size,
+                               initprot=3)
+    commands += images.segment(b"__LINKEDIT", images.FAR, images.PAGE, begin + size, len(table), initprot=1)
+    commands += images.library(0) + images.linkedit_data(LC_DYLD_CHAINED_FIXUPS, begin + size, len(table))
+    out = io.BytesIO()
+    images.image(out, commands, 5, [bytes(data), table], accepted=True)
     return kesvuot.verify(out.getvalue()).images[0]
 
 
-def judge_slots(report):
-    """An opcode of each kind, by hand."""
-    rebase = "11 2108 52 3008 41 6002 7010 800208 51 00"
-    report.case("rebases, by hand", [(it.address - images.FAR, it.segment, it.kind)
-                                     for it in with_streams(rebase=rebase).rebases],
-                [(offset, 1, 1) for offset in (8, 16, 40, 48, 56, 80, 96, 112)])
-    bind = "11 405f6100 51 7108 90 607e a008 b1 2000 3e 495f6200 c00208 80f8ffffffffffffffff01 90 00"
-    wanted = [(8, b"_a", 1, 0, 0), (16, b"_a", 1, -2, 0), (32, b"_a", 1, -2, 0), (48, b"_b", -2, -2, 9),
-              (64, b"_b", -2, -2, 9), (72, b"_b", -2, -2, 9)]
-    report.case("binds, by hand", slots_of(with_streams(bind=bind).binds), wanted)
-    report.case("the same as weak binds", slots_of(with_streams(weak=bind).weak_binds), wanted)
-    lazy = "7110 11 6005 425f6100 90 00 7118 405f6300 51 90 00 00"
-    report.case("lazy binds, by hand", [(it.address - images.FAR, *it[1:3], it.name.tobytes(), *it[4:])
-                                        for it in with_streams(lazy=lazy).lazy_binds],
-                [(16, 1, 0, b"_a", 1, 5, 2), (24, 1, 1, b"_c", 0, 0, 0)])
-    report.case("what is shown of a bind", str(next(iter(with_streams(lazy=lazy).lazy_binds))),
-                f"Bind(address={images.FAR + 16}, segment=1, kind=0, name=b'_a', ordinal=1, addend=5, flags=2)")
-    report.case("an image without opcodes", [list(slots) for slots in slots_of_all(with_streams())], [[], [], [], []])
+def chained_rows(image):
+    """All of the fixups of segment 1, but their addresses, which are those that their offsets say."""
+    found = list(image.fixups)
+    at = {(it.segment, it.address - it.offset - images.BASE) for it in found}
+    if at != {(1, images.PAGE)}:
+        return found
+    return [it[2:6] + (it.authentication and tuple(it.authentication),) for it in found]
 
 
-def slots_of(binds):
-    return [(it.address - images.FAR, it.name.tobytes(), it.ordinal, it.addend, it.flags) for it in binds]
+def judge_chains(report):
+    """Pointers and imports of each format, by hand. (mach-o/fixup-chains.h)"""
+    base = images.BASE
+    imports = [struct.pack("<I", bits) for bits in (1 | 1 << 9, 0xFE | 1 << 8 | 4 << 9, 0xFD | 7 << 9)]
+    names = b"\0_a\0_b\0_c\0"
+    rows = [(b"_a", 1, 0, False), (b"_b", -2, 0, True), (b"_c", -3, 0, False)]
+    # A chain in the first page, none in the second, and one in the third. `next` counts 4 bytes.
+    image = chained(2, {8: 0x1_0000_0010 | 0x7F << 36 | 2 << 51, 16: 1 << 63 | 1 | 5 << 24 | 3 << 51, 28: 1 << 63 | 2,
+                        0x2004: 0xF_FFFF_FFFF}, [8, 0xFFFF, 4], 1, imports, names)
+    report.case("chains of 64 bits, by hand", chained_rows(image), [
+        (8, 0x7F00_0001_0000_0010, None, 0, None), (16, None, 1, 5, None), (28, None, 2, 0, None),
+        (0x2004, 0xF_FFFF_FFFF, None, 0, None)])
+    report.case("their imports", binds_of(image)[1], rows)
+    image = chained(6, {0: 0x1234 | 2 << 36}, [0])
+    report.case("targets from the base, by hand", chained_rows(image), [
+        (0, base + 0x1234 + (2 << 56), None, 0, None)])
+    report.case("no imports", list(image.imports), [])
+    # The upper bits: is authenticated, is a bind, `next`, which counts 8 bytes, and the key or a part of the addend.
+    pointers = {0: 0x2_0000_0010 | 0x80 << 43 | 1 << 51, 8: 1 << 62 | 1 | 0x7_FFFE << 32 | 1 << 51,
+                16: 1 << 63 | 0x1010 | 0xBEEF << 32 | 1 << 48 | 2 << 49 | 2 << 51,
+                32: 3 << 62 | 2 | 0x0102 << 32 | 3 << 49}
+    for form in (1, 9, 12):
+        target = 0x2_0000_0010 | 0x80 << 56
+        image = chained(form, pointers, [0], 1, imports, names)
+        report.case(f"chains of arm64e, format {form}, by hand", chained_rows(image), [
+            (0, target if form == 1 else base + target, None, 0, None), (8, None, 1, -2, None),
+            (16, base + 0x1010, None, 0, (2, 0xBEEF, True)), (32, None, 2, 0, (3, 0x0102, False))])
+    # With addends of their own: of 32 bits, and of 64 bits, where libraries have 16 bits.
+    image = chained(2, {0: 1 << 63 | 1 | 255 << 24}, [0], 2,
+                    [struct.pack("<Ii", 1 | 1 << 9, 7), struct.pack("<Ii", 0xFF | 4 << 9, -16)], names)
+    report.case("imports with an addend, by hand", (chained_rows(image), binds_of(image)[1]), (
+        [(0, None, 1, 239, None)], [(b"_a", 1, 7, False), (b"_b", -1, -16, False)]))
+    image = chained(2, {0: 1 << 63}, [0], 3, [struct.pack("<Qq", 0xFFFE | 1 << 16 | 4 << 32, -2 ** 63),
+                                             struct.pack("<Qq", 0x0101 | 1 << 32, 1)], names)
+    report.case("imports with a long addend, by hand", (chained_rows(image), binds_of(image)[1]), (
+        [(0, None, 0, -2 ** 63, None)], [(b"_b", -2, -2 ** 63, True), (b"_a", 0x101, 1, False)]))
 
 
-def slots_of_all(image):
-    return image.rebases, image.binds, image.weak_binds, image.lazy_binds
-
-
-def fault_of(slots):
-    """How many slots are found, and what ends them."""
-    count = 0
-    try:
-        for _ in slots:
-            count += 1
-    except kesvuot.OpcodeError as error:
-        return count, str(error)
-    return count, "all"
+def judge_bad_chains(report):
+    """Where the rows of chains and of imports end, by hand. Before what is wrong there is a good pointer, and after it
+    another one, which is no row."""
+    good = 0x10 | 2 << 51
+    imports = [struct.pack("<I", 1), struct.pack("<I", 1 | 3 << 9)]
+    for name, form, pointers, starts, wanted in (
+            ("an import", 2, {0: good, 8: 1 << 63 | 2 | 2 << 51, 16: 0x30}, [0], [0]),
+            ("the last import", 2, {0: good, 8: 1 << 63 | 1 | 2 << 51, 16: 0x30}, [0], [0, 8, 16]),
+            ("a pointer in one before it", 2, {0: good, 8: 0x20 | 1 << 51}, [0], [0]),
+            ("another page", 2, {0xFF0: 0x10 | 4 << 51, 0x1000: 0x20}, [0xFF0, 0], [0xFF0]),
+            ("the end of a page", 2, {0xFF0: 0x10 | 3 << 51, 0xFFC: 0x20}, [0xFF0], [0xFF0]),
+            ("the end of the bytes", 2, {0: good}, [0], [0]),
+            ("a start past its page", 2, {0x1000: 0x20}, [0x1000, 0], []),
+            ("a format", 3, {0: good}, [0], [])):
+        image = chained(form, pointers, starts, 1, imports, b"_a\0_b\0")
+        report.case(f"chains that end: {name}", [it.offset for it in image.fixups], wanted)
+    for name, number, names, wanted in (
+            ("a name past the end", 6, b"_a\0_b\0", [b"_a"]),
+            ("a name without an end", 3, b"_a\0_b", [b"_a"]),
+            ("both names", 3, b"_a\0_b\0", [b"_a", b"_b"])):
+        image = chained(2, {0: 0x20}, [0], 1, [struct.pack("<I", 1), struct.pack("<I", 1 | number << 9)], names)
+        report.case(f"imports that end: {name}", [it.name.tobytes() for it in image.imports], wanted)
+    many = [struct.pack("<I", 1)] * 20
+    image = chained(2, {0: 0x20}, [0], 1, many, b"_" * 100 + b"\0")
+    table = image.linkedit(LC_DYLD_CHAINED_FIXUPS)
+    report.case("imports that end: names with more bytes than the table", len(list(image.imports)), len(table) // 101)
 
 
 def judge_bad_opcodes(report):
-    """Each opcode that cannot be followed, by hand: its place is that in the stream."""
-    most = "ff" * 9 + "01"
-    for name, words, count, reason, place in (
-            ("an opcode", "11 90", 0, "the opcode is not known", 1),
-            ("no segment", "51", 0, "no segment is set", 0),
-            ("a segment", "2300 51", 0, "the segment is not there", 2),
-            ("the last slot", "21f801 51 51", 1, "a slot is not in the file bytes of the segment", 4),
-            ("a part of a slot", "21f901 51", 0, "a slot is not in the file bytes of the segment", 3),
-            ("the last of many slots", "2100 6021", 0, "a slot is not in the file bytes of the segment", 2),
-            ("one slot again and again", f"2100 80{most}f8{most[2:]}", 0,
-             "a slot is not in the file bytes of the segment", 2),
-            ("a number at the end", "3080", 0, "a number does not end", 0),
-            ("a number of eleven bytes", f"30{'80' * 10}00", 0, "a number does not end", 0),
-            ("a number of 65 bits", f"30{'80' * 9}02", 0, "a number is 2^64 or more", 0)):
-        check_fault(report, name, with_streams(rebase=words), "rebases", count, reason, place)
-    for name, words, count, reason, place in (
-            ("an opcode of a bind", "11 d0", 0, "the opcode is not known", 1),
-            ("no name", "7100 90", 0, "no name is set", 2),
-            ("a name", "7100 405f61", 0, "a name does not end", 2),
-            ("a library", "12", 0, "the library is not there", 0),
-            ("a library by a number", "11 2002", 0, "the library is not there", 1),
-            ("a special library", "3d 3c", 0, "the library is not there", 1),
-            ("an addend", f"60{'ff' * 9}01", 0, "a number is not of 64 bits", 0),
-            ("a slot of a bind", "405f6100 7100 90 c00120 71f801 a000 90", 3,
-             "a slot is not in the file bytes of the segment", 15)):
-        check_fault(report, name, with_streams(bind=words), "binds", count, reason, place)
-    check_fault(report, "a name after DONE", with_streams(lazy="405f6100 7100 90 00 7108 90"), "lazy_binds", 1,
-                "no name is set", 10)
-    refused = kesvuot.OpcodeError("why", 0x1F)
-    again = pickle.loads(pickle.dumps(refused))
-    report.case("a fault from another process", (type(again), again.reason, again.place, str(again)),
-                (kesvuot.OpcodeError, "why", 0x1F, "why at 0x1f"))
-
-
-def check_fault(report, name, image, slots, count, reason, place):
-    """The first command of LC_DYLD_INFO_ONLY has the starts of all streams. One of them has bytes."""
-    info = next(it for it in image.commands if it.cmd == images.LC_DYLD_INFO_ONLY)
-    start = struct.unpack_from("<I", info.bytes, 8)[0]
-    wanted = count, f"{reason} at {start + place:#x}"
-    report.case(f"an opcode that cannot be followed: {name}", fault_of(getattr(image, slots)), wanted)
+    """A stream that cannot be followed ends, and of an opcode the pointers end before the first that is in no bytes of
+    a segment, by hand. In the rebase streams a good opcode rebases the pointer at 128 before or after it."""
+    most, back = "ff" * 9 + "01", "f8" + "ff" * 8 + "01"
+    good = "218001 51"
+    for name, words, wanted in (
+            ("an opcode", f"{good} 90 {good}", [128]),
+            ("another type", f"{good} 12 {good}", [128]),
+            ("no type and the type of a pointer", f"{good} 11 {good}", [128, 128]),
+            ("bytes past DONE", f"{good} 00 {good}", [128]),
+            ("zeros past DONE", f"{good} 000000", [128]),
+            ("no segment", f"51 {good}", [128]),
+            ("a segment", f"2300 51 {good}", [128]),
+            ("the last pointer", f"21f801 51 51 {good}", [248, 128]),
+            ("a part of a pointer", f"21f901 51 {good}", [128]),
+            ("the last of many pointers", f"21e801 6004 {good}", [232, 240, 248, 128]),
+            ("a number at the end", f"{good} 3080", [128]),
+            ("a number of eleven bytes", f"{good} 30{'80' * 10}00 {good}", [128]),
+            ("a number of 65 bits", f"{good} 30{'80' * 9}02 {good}", [128])):
+        report.case(f"rebases that end: {name}", offsets_of(with_streams(rebase=words)), wanted)
+    report.case("one pointer again and again", offsets_of(with_streams(rebase=f"2108 80{most}{back}"), 5000),
+                [8] * 5000)
+    for name, words, pointers, imports in (
+            ("an opcode", "405f6100 7108 90 d0 90", [(8, 0, 0)], [(b"_a", 0, 0, False)]),
+            ("another type", "405f6100 7108 90 52 90", [(8, 0, 0)], [(b"_a", 0, 0, False)]),
+            ("no name", "7108 90 405f6100 90", [(8, 0, 0), (16, 1, 0)], [(b"", 0, 0, False), (b"_a", 0, 0, False)]),
+            ("a name", "405f6100 7108 90 405f62", [(8, 0, 0)], [(b"_a", 0, 0, False)]),
+            ("a library", "12 405f6100 7108 90", [(8, 0, 0)], [(b"_a", 2, 0, False)]),
+            ("a library by a number", f"20{most} 405f6100 7108 90", [(8, 0, 0)], [(b"_a", 2 ** 63 - 1, 0, False)]),
+            ("a special library", "3c 405f6100 7108 90", [(8, 0, 0)], [(b"_a", -4, 0, False)]),
+            ("an addend", f"405f6100 7108 90 60{'ff' * 9}01 90", [(8, 0, 0)], [(b"_a", 0, 0, False)]),
+            ("a pointer", "405f6100 71f801 90 405f6200 90 405f6300 7108 90", [(248, 0, 0), (8, 2, 0)],
+             [(b"_a", 0, 0, False), (b"_b", 0, 0, False), (b"_c", 0, 0, False)])):
+        report.case(f"binds that end: {name}", binds_of(with_streams(bind=words)), (pointers, imports))
+    report.case("a name after DONE", binds_of(with_streams(lazy="405f6100 7108 90 00 7110 90")),
+                ([(8, 0, 0), (16, 1, 0)], [(b"_a", 0, 0, False), (b"", 0, 0, False)]))
 
 
 def with_data(count):
     """An image of `count` segments between that of the headers and __LINKEDIT, each of one pointer. An opcode rebases
-    the first slot of segment 15."""
+    the first pointer of segment 15."""
     opcodes = bytes.fromhex("2f00 51 00")
     start = images.HEADER_SIZE + images.SEGMENT_SIZE * (count + 2) + images.DYLD_INFO_SIZE + images.MAIN_SIZE
     end = start + images.POINTER_SIZE * count
@@ -1234,38 +1338,52 @@ def with_data(count):
 
 
 def judge_last_segment(report):
-    """An opcode can name 16 segments: the last one of these is not there, is __LINKEDIT, or has a pointer."""
-    faults = [fault_of(with_data(count).rebases)[1].split(" at ")[0] for count in (13, 14, 15)]
-    report.case("a slot in segment 15", faults,
-                ["the segment is not there", "a slot is not in the file bytes of the segment", "all"])
-    report.case("its address", [it.address - images.FAR for it in with_data(15).rebases], [14 * images.PAGE])
+    """An opcode can name 16 segments: the last of these is not there, is __LINKEDIT, which has four bytes, or has a
+    pointer."""
+    report.case("a pointer in segment 15", [[(it.segment, it.address - images.FAR) for it in with_data(count).fixups]
+                                            for count in (13, 14, 15)], [[], [], [(15, 14 * images.PAGE)]])
 
 
 def judge_much(report):
-    """There are no more slots than the file has pointers, and no more memory is taken than for the opcodes."""
-    data_size, again = 64, 200
-    image = with_streams(data_size, rebase="2100 58" * again)
-    count, said = fault_of(image.rebases)
-    report.case("slots without end", (count <= len(image.bytes) // 8 < 8 * again, said.split(" at ")[0]),
-                (True, "there are more slots than pointers in the file"))
+    """More pointers than a batch, and no more memory than for a batch."""
     image = kesvuot.verify(made("binds-100000")).images[0]
-    report.case("the first of many binds", slots_of([next(iter(image.binds))]), [(0, b"_symbol_0000000", 1, 0, 0)])
+    report.case("the first of many binds", binds_of_first(image), (0, b"_symbol_0000000", 1))
     tracemalloc.start()
-    report.case("many binds", sum(1 for _ in image.binds), 100_000)
-    report.case("the memory for many binds", tracemalloc.get_traced_memory()[1] < 19 * 100_000 + 100_000, True)
+    report.case("many binds", [(it.address - images.FAR, it.import_index) for it in image.fixups]
+                == [(8 * index, index) for index in range(100_000)], True)
+    report.case("many imports", [it.name.tobytes() for it in image.imports]
+                == [b"_symbol_%07d" % index for index in range(100_000)], True)
     tracemalloc.stop()
+    for count in (1, BATCH - 1, BATCH, BATCH + 1, 2 * BATCH + 5):
+        image = kesvuot.verify(made(f"rebases-{count}-one")).images[0]
+        report.case(f"{count} rebases", [it.offset for it in image.fixups] == list(range(0, 8 * count, 8)), True)
+        report.case(f"{count} rebases again, in two loops at once", all(
+            one == other for one, other in itertools.zip_longest(image.fixups, image.fixups)), True)
+    image = kesvuot.verify(made("rebases-100000-one")).images[0]
+    tracemalloc.start()
+    report.case("rebases of one opcode", sum(1 for _ in image.fixups), 100_000)
+    report.case("the memory for them", tracemalloc.get_traced_memory()[1] < 100_000, True)
+    tracemalloc.stop()
+
+
+def binds_of_first(image):
+    first = next(iter(image.fixups))
+    bound = list(itertools.islice(image.imports, 1))[0]
+    return first.address - images.FAR, bound.name.tobytes(), bound.library
 
 
 def judge_streams(report):
     """On the vectors and on mutants of these and of the real files: a file that the linked profile accepts has the
-    slots that the plain dyld writes. For another the slots are given up to an opcode that cannot be followed."""
+    pointers that the plain dyld writes. For another there are some, and no exception."""
     vectors = [(vector.name, vector.data) for vector in read_vectors(LINKED)]
-    twice = [data for name, data in vectors if name == "two rebase streams"]
-    report.case("a second command with opcodes", [fault_of(kesvuot.verify(data).images[0].rebases) for data in twice],
-                [(0, "a second command names opcodes at 0x128")] * 3)
-    compare_streams(report, "vectors", vectors, 280)
-    seeds = [data for _, data in vectors if table_mutants.streams(data)] + [it[1] for it in oracle_trials.read_real()]
-    compare_streams(report, "mutants", [(f"mutant {number}", mutant_of(seeds, number)) for number in range(4000)], 200)
+    compare_fixups(report, "vectors", vectors, 280)
+    seeds = [data for _, data in vectors if has_fixups(data)] + [it[1] for it in oracle_trials.read_real()]
+    compare_fixups(report, "mutants", [(f"mutant {number}", mutant_of(seeds, number)) for number in range(4000)], 200)
+
+
+def has_fixups(data):
+    return bool(table_mutants.streams(data)) or any(
+        image.is_64_bit and image.only(LC_DYLD_CHAINED_FIXUPS) for image in oracle.File(data).slices)
 
 
 def mutant_of(seeds, number):
@@ -1276,29 +1394,28 @@ def mutant_of(seeds, number):
     return data
 
 
-def compare_streams(report, name, files, least):
+def compare_fixups(report, name, files, least):
     """At least `least` of the files are accepted by the linked profile."""
     judged = [(which, data, verdict(data, "linked") == "accepted") for which, data in files
               if verdict(data) == "accepted"]
-    report.case(f"{name} with good opcodes", sum(is_good for *_, is_good in judged) >= least, True)
-    report.alike(f"the slots of {name}, and the plain dyld", "files", (
-        (which, list(given_slots(data)), list(dyld_slots(data))) for which, data, is_good in judged if is_good))
-    report.case(f"{name} with more slots than pointers", [
-        which for which, data, _ in judged for image in kesvuot.verify(data).images for slots in slots_of_all(image)
-        if fault_of(slots)[0] > len(data) // 8], [])
+    report.case(f"{name} with good fixups", sum(is_good for *_, is_good in judged) >= least, True)
+    report.alike(f"the fixups of {name}, and the plain dyld", "files", (
+        (which, list(map(fixups_read, kesvuot.verify(data).images)),
+         [fixups_of(image) for image in oracle.File(data).slices if image.is_64_bit])
+        for which, data, is_good in judged if is_good))
+    for _, data, is_good in judged:
+        if not is_good:
+            for image in kesvuot.verify(data).images:
+                read_fixups(image)
 
 
-def given_slots(data):
-    for image in kesvuot.verify(data).images:
-        yield from ((it.address, None, None, None, None) for it in image.rebases)
-        for slots in (image.binds, image.weak_binds, image.lazy_binds):
-            yield from ((it.address, it.ordinal, it.name.tobytes(), it.addend, it.flags) for it in slots)
-
-
-def dyld_slots(data):
-    for image in oracle.File(data).slices:
-        if image.is_64_bit:
-            yield from (tuple(write)[1:] for write in plain_dyld.load_opcodes(image))
+def read_fixups(image):
+    """Reads the first fixups, and the imports."""
+    for it in itertools.islice(image.fixups, 3 * BATCH):
+        if len(image.segments[it.segment].bytes[it.offset:it.offset + 8]) != 8:
+            raise ValueError(f"a pointer that is not whole: {it}")
+    for name in itertools.islice(image.imports, 3 * BATCH):
+        repr(name)
 
 
 def judge_threads(report):
@@ -1354,8 +1471,7 @@ def read_all(image):
     list(all_parts(SimpleNamespace(data=image.bytes, images=[image])))
     for rows in (image.builds, image.indirects, image.local_symbols, image.defined_symbols, image.undefined_symbols):
         list(rows)
-    for slots in slots_of_all(image):
-        fault_of(slots)
+    read_fixups(image)
 
 
 def judge_memory(report):
@@ -1410,7 +1526,9 @@ def main(words):
     judge_tables(report)
     judge_walked_tables(report)
     judge_uncounted_tables(report)
-    judge_slots(report)
+    judge_fixups(report)
+    judge_chains(report)
+    judge_bad_chains(report)
     judge_bad_opcodes(report)
     judge_last_segment(report)
     judge_much(report)

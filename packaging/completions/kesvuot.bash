@@ -8,17 +8,19 @@ _kesvuot() {
     case $previous in
         --profile) words="layout strict linked unambiguous sealed" ;;
         --format) words="text json jsonl sarif junit github" ;;
-        --include | --exclude | --jobs) return ;;
+        --include | --exclude | --jobs | --max-unpacked | --rules-url | --cluster) return ;;
         *)
             if ((COMP_CWORD == 1)) && [[ $current != */* ]]; then
-                words="check explain show diff map --help --version"
+                words="check explain show diff map policy --help --version"
             elif [[ $current == -* ]]; then
                 case ${COMP_WORDS[1]} in
-                    check) words="--exclude --format --help --include --jobs --mmap --no-progress
-                        --no-unsupported-slices --profile --quiet --skip-other-kinds" ;;
-                    explain | show) words="--help --json --profile" ;;
-                    diff) words="--help --profile" ;;
-                    map) words="--help --output --profile" ;;
+                    check) words="--archives --baseline --cluster --exclude --fail-other-kinds --files-from --format
+                        --help --include --jobs --manifest --max-unpacked --mmap --no-progress --no-unsupported-slices
+                        --null --policy --profile --quiet --rules-url --since --skip-other-kinds" ;;
+                    explain) words="--help --json --profile --rules-url" ;;
+                    show) words="--all --help --json --profile --rules-url" ;;
+                    diff | policy) words="--help --json --profile" ;;
+                    map) words="--help --output --profile --rules-url" ;;
                 esac
             fi
             ;;

@@ -21,8 +21,9 @@ from .programs import build_trials
 # tests/floor, which runs one of its own, tests/dyld, tests/counts and tests/agreed, which run none, and tests/command,
 # which has stubs.
 PROGRAM_SCRIPTS = ("program floor refusals oracle strict linked unambiguous other_readers sealed claims dyld sizes"
-                   " limits vectors counts agreed".split())
-LIBRARY_SCRIPTS = "cost rebuild library python tool map explain slots code exports examples rust go fuzz recipes install".split()
+                   " limits vectors packed_vectors edited counts agreed".split())
+LIBRARY_SCRIPTS = ("cost rebuild library python cluster tool stores policies archives map explain slots code exports examples"
+                   " rust go fuzz recipes install").split()
 SCRIPTS = ["command", *PROGRAM_SCRIPTS, *LIBRARY_SCRIPTS]
 CLOSING_LINE = re.compile(r"(\d+) passed, (\d+) failed")
 

@@ -18,7 +18,7 @@ structures, parts and numbers a refusal is about. `kesvuot.constants` has the nu
 such as LC_SEGMENT_64.
 
 The values and tables of an image are properties. A table is a Table of rows, found by their indices as in a list;
-exports and fixups are a Walk each. The values of a row are its fields, and properties of it decode its bits, such as
+exports, fixups and imports are a Walk each. The values of a row are its fields, and properties of it decode its bits, such as
 `Symbol.kind`.
 
 `data` is bytes, a bytearray, an mmap, or any other object whose bytes are in one piece. Names and contents are
@@ -46,12 +46,12 @@ of the installation or the archive that the package is in, or from where the sys
 call, which raises ImportError where it is not found. The package needs CPython 3.8 or later.
 """
 
-from . import constants
+from . import _interrupts, constants
 from ._explanation import Explanation, Part, explain
 from ._files import (
     BoundedTable, Dysymtab, File, Image, Refused, Slice, Source, SourceKind, Symtab, arch_name, arch_named,
     command_name, library_version, platform_name, verify, verify_file)
-from ._opcodes import Bind, OpcodeError, Rebase
+from ._fixups import Authentication, Fixup, Import
 from ._rows import (
     Blob, Build, CodeDirectory, Command, DataInCode, Export, Library, Relocation, Section, Segment, Table, Walk)
 from ._symbols import Strings, Symbol, SymbolKind, SymbolLibrary
@@ -60,4 +60,4 @@ __all__ = ["verify", "verify_file", "explain", "library_version", "arch_name", "
            "platform_name", "constants", "Refused", "Explanation", "Part", "File", "Slice", "Image", "Source",
            "SourceKind", "Table", "Walk", "Segment", "Section", "Library", "Build", "Command", "Symbol", "SymbolKind",
            "SymbolLibrary", "Strings", "Relocation", "DataInCode", "Blob", "CodeDirectory", "Export", "BoundedTable",
-           "Symtab", "Dysymtab", "Rebase", "Bind", "OpcodeError"]
+           "Symtab", "Dysymtab", "Fixup", "Import", "Authentication"]

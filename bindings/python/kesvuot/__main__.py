@@ -2,10 +2,11 @@
 
 from __future__ import annotations
 
+import signal
 import sys
 from typing import List, Optional
 
-from ._output import Output, discard, say
+from ._output import Output, ReaderGone, discard, end_by, say
 
 NO_VERDICT_STATUS = 2
 
@@ -23,6 +24,8 @@ def main(words: Optional[List[str]] = None) -> int:
             if ended.code == 0:
                 Output().flush()
             return NO_VERDICT_STATUS if ended.code else 0
+    except ReaderGone:
+        end_by(signal.SIGPIPE)
     except Exception as error:  # pylint: disable=broad-except # whatever it is, it is no verdict
         say(str(error) or "out of memory")
         discard(1)

@@ -7,9 +7,8 @@ from types import SimpleNamespace
 from typing import Any, Dict, Iterator, List, NamedTuple, Optional, Tuple
 
 from ._case import cut
-from ._layout import plain
 from ._library import Bytes
-from ._names import LIBRARIES
+from ._names import LIBRARIES, plain
 from ._opcodes import (
     BIND, BIND_SPECIAL_DYLIB_WEAK_LOOKUP, LAZY_BIND, POINTER_SIZE, SPAN, WEAK_BIND, Binds, LazyBinds, OpcodeError)
 from ._parts import walk_commands

@@ -7,8 +7,7 @@ from typing import Any, Dict, Iterator, List, NamedTuple, Optional, Tuple
 
 from ._explanation import Explanation, Part as FilePart
 from ._files import Refused
-from ._layout import plain
-from ._names import opcode_name
+from ._names import opcode_name, plain
 from ._parts import FAT_ENTRIES, TABLES, Part, TableForm, image_parts, slices_of
 from ._structures import STRUCTURES, directory_size, field_of, number_in, size_of, structure_of
 from .constants import LC_SYMTAB

@@ -2,22 +2,40 @@
 
 from __future__ import annotations
 
+import hashlib
 import os
+import time
 from fnmatch import fnmatchcase
 from functools import partial
-from typing import Any, Callable, Counter, Dict, Iterator, List, NamedTuple, Optional, Tuple
+from typing import (
+    TYPE_CHECKING, Any, Callable, Counter, Dict, Iterable, Iterator, List, NamedTuple, Optional, Protocol, Tuple)
 
+from ._archives import MOST_UNPACKED, Archive, Begun, Member, Wanted, archive_at, contents_of
+from ._archives import Contents as ArchivedContents
 from ._files import File, Image, Refused, verify
 from ._kinds import is_told, other_kind
 from ._pool import map_in_processes
 from ._profiles import DEFAULT
-from ._reading import Contents, NotMachO, read_found, read_given
+from ._reading import Contents, NotMachO, Stamp, read_found, read_given
+from ._streams import Allowance
+
+if TYPE_CHECKING:
+    from ._policy import Policy, Unmet
 
 ACCEPTED, REFUSED, NO_VERDICT, SKIPPED = "accepted", "refused", "no verdict", "skipped"
-STATUSES = {ACCEPTED: 0, SKIPPED: 0, REFUSED: 1, NO_VERDICT: 2}
+# Of a file that the profile accepts, and that does not meet a key of the policy.
+NOT_BY_POLICY = "not by the policy"
+# What was found in a folder or an archive and says that it is of a kind that is not judged, such as an object file.
+OTHER_KIND = "other kind"
+STATUSES = {ACCEPTED: 0, SKIPPED: 0, OTHER_KIND: 0, REFUSED: 1, NOT_BY_POLICY: 1, NO_VERDICT: 2}
+# That of a command that Control-C has ended, in a shell.
+INTERRUPTED_STATUS = 130
 # In place of a rule, for a file that is refused by choice: the library accepts it, and judges nothing in one of its
 # slices.
 UNSUPPORTED_SLICE = "unsupported-slice"
+# A file that was written later than this before it was read may be written again at what its file system calls the same
+# time.
+SETTLED_NS = 2_000_000_000
 # What is asked of an accepted file, besides the verdict: nothing, its text, or its slices as objects. And of the bytes
 # of a refused one.
 Extra = Optional[Callable[[File], Any]]
@@ -32,10 +50,18 @@ class Unsupported(NamedTuple):
     size: int
 
 
+class Identity(NamedTuple):
+    """The SHA-256 of all bytes that were judged, and the stamp of their file if it had settled."""
+
+    sha256: str
+    stamp: Optional[Stamp] = None
+
+
 class Outcome(NamedTuple):
     """What is said of a file. A refused one has a rule, a place, and perhaps the kind or the slice that is not judged;
-    an accepted one has slices; and one without a verdict a reason. `size` is how many bytes were read. `extra` is what
-    was asked of the file besides."""
+    an accepted one has slices, and keys of the policy if it does not meet them; and one without a verdict a reason.
+    `size` is how many bytes were read. `extra` is what was asked of the file besides. It is known if the verdict is
+    that of a manifest. The identity is there if it was asked for."""
 
     path: str
     word: str
@@ -47,11 +73,14 @@ class Outcome(NamedTuple):
     reason: str = ""
     extra: Any = None
     unsupported: Optional[Unsupported] = None
+    unmet: Tuple[Unmet, ...] = ()
+    identity: Optional[Identity] = None
+    is_known: bool = False
 
     @property
     def status(self) -> int:
         """The exit status if this is the only file."""
-        return STATUSES[self.word]
+        return 0 if self.is_known else STATUSES[self.word]
 
     @property
     def refusal(self) -> str:
@@ -59,32 +88,49 @@ class Outcome(NamedTuple):
 
 
 class Target(NamedTuple):
-    """A file to judge: one that the user has named, or one that was found in a folder. Whatever is not judged has its
-    outcome already."""
+    """A file to judge: one that the user has named, or one that was found in a folder or an archive. Whatever is not
+    judged has its outcome already. `contents` is what a member of an archive has, or where it is."""
 
     path: str
     is_found: bool = False
     outcome: Optional[Outcome] = None
+    contents: Optional[ArchivedContents] = None
+
+
+class Known(Protocol):
+    """Outcomes that are known before a file is judged."""
+
+    def of_file(self, path: str) -> Optional[Outcome]:
+        """The outcome of a file that need not even be read."""
+
+    def of_bytes(self, path: str, sha256: str) -> Optional[Outcome]:
+        """The outcome of a file with these bytes."""
 
 
 class Choice(NamedTuple):
-    """How files are chosen and judged."""
+    """How files are chosen and judged, and whether each outcome has its identity."""
 
     profile: str = DEFAULT
     walks: bool = True
     include: Tuple[str, ...] = ()
     exclude: Tuple[str, ...] = ()
     skips_other_kinds: bool = False
+    fails_other_kinds: bool = False
     refuses_unsupported: bool = False
     maps: bool = False
+    opens_found: bool = False
+    most_unpacked: int = MOST_UNPACKED
     extra: Extra = None
     of_refused: ExtraOfRefused = None
+    policy: Optional[Policy] = None
+    identifies: bool = False
+    known: Optional[Known] = None
 
 
 # Finding
 
 
-def find(paths: List[str], choice: Choice) -> Iterator[Target]:
+def find(paths: Iterable[str], choice: Choice) -> Iterator[Target]:
     """The files that are named, and those in the folders that are named: in the order of the names, and those of a
     folder before those of the folders in it."""
     for path in paths:
@@ -123,20 +169,81 @@ def _scan(folder: str, choice: Choice) -> Names:
     names = Names([], [], [])
     with os.scandir(folder) as entries:
         for entry in entries:
-            if any(_matches(entry, pattern) for pattern in choice.exclude):
+            if _is_left_out(choice, entry.path, entry.name):
                 continue
             if entry.is_dir(follow_symlinks=False):
                 names.folders.append(entry.name)
-            elif not choice.include or any(_matches(entry, pattern) for pattern in choice.include):
+            elif _is_asked_for(choice, entry.path, entry.name) or (choice.opens_found and entry.is_file(
+                    follow_symlinks=False)):
                 (names.files if entry.is_file(follow_symlinks=False) else names.others).append(entry.name)
     for some in names:
         some.sort()
     return names
 
 
-def _matches(entry: Any, pattern: str) -> bool:
+def _is_left_out(choice: Choice, path: str, name: str) -> bool:
+    return any(_matches(path, name, pattern) for pattern in choice.exclude)
+
+
+def _is_asked_for(choice: Choice, path: str, name: str) -> bool:
+    return not choice.include or any(_matches(path, name, pattern) for pattern in choice.include)
+
+
+def _matches(path: str, name: str, pattern: str) -> bool:
     """A pattern with a slash must match the whole path, and any other the name."""
-    return fnmatchcase(entry.path if "/" in pattern else entry.name, pattern)
+    return fnmatchcase(path if "/" in pattern else name, pattern)
+
+
+# Archives
+
+
+def open_archives(targets: Iterator[Target], choice: Choice) -> Iterator[Target]:
+    """The targets, with the members of each archive in its place."""
+    wanted = Wanted(partial(_is_left_out, choice), partial(_is_asked_for, choice), choice.identifies)
+    for target in targets:
+        can_open = not target.outcome and (choice.opens_found or not target.is_found)
+        allowance = Allowance(choice.most_unpacked)
+        found = archive_at(target.path, target.is_found, allowance) if can_open else None
+        if isinstance(found, Archive):
+            # No name here has a member, which can be large.
+            yield from map(partial(_target_of, choice, target), found.members(wanted, allowance))
+        elif isinstance(found, Begun):
+            yield target._replace(contents=found)
+        elif not target.is_found or _is_asked_for(choice, target.path, os.path.basename(target.path)):
+            yield target
+
+
+def count_files(paths: Iterable[str], choice: Choice) -> int:
+    """About how many files there are, by a walk of its own: of archives, only zip says how many it has."""
+    total = 0
+    for target in find(paths, choice):
+        can_open = target.path != "-" and not target.outcome and (choice.opens_found or not target.is_found)
+        found = archive_at(target.path, target.is_found, Allowance(choice.most_unpacked)) if can_open else None
+        total += found.count() if isinstance(found, Archive) else 1
+    return total
+
+
+def _target_of(choice: Choice, archive: Target, member: Member) -> Target:
+    """A member is found, unless it is the file that the user has named, which is only compressed."""
+    path, is_found = member.path, archive.is_found or member.path != archive.path
+    outcome = None
+    if member.fault:
+        outcome = Outcome(path, NO_VERDICT, reason=_reason(member.fault))
+    elif member.kind:
+        outcome = Outcome(path, _word_of_kind(is_found, choice), rule="magic", kind=member.kind)
+    elif member.contents is None:
+        outcome = Outcome(path, SKIPPED)
+    return Target(path, is_found, outcome, member.contents)
+
+
+# A longer path is not sent along with others. Archives have names of any length.
+PATH_LENGTH = 1 << 10
+
+
+def weight_of(target: Target) -> int:
+    """How many bytes a target takes along."""
+    contents = len(target.contents) if isinstance(target.contents, (bytes, bytearray)) else 0
+    return contents + max(len(target.path) - PATH_LENGTH, 0)
 
 
 # Judging
@@ -145,28 +252,79 @@ def _matches(entry: Any, pattern: str) -> bool:
 def judge(target: Target, choice: Choice) -> Outcome:
     """Judges a file. It is read into memory, so nobody can change it meanwhile; unless the choice is that it is mapped,
     and then whoever can write to it can change it, and end this process by cutting it."""
-    if target.outcome:
-        return target.outcome
     path, size = target.path, 0
     try:
-        data = (read_found if target.is_found else read_given)(path, choice.maps)
+        before = outcome_before(target, choice)
+        if before:
+            return before
+        began, stamps = time.time_ns(), [] if choice.identifies else None
+        if target.contents is not None:
+            data: Contents = contents_of(target.contents, stamps)
+        else:
+            data = (read_found if target.is_found else read_given)(path, choice.maps, stamps)
         size = len(data)
+        if stamps is None:
+            return judge_bytes(path, data, choice, target.is_found)
+        identity = Identity(hashlib.sha256(data).hexdigest(), _settled(stamps, began))
+        known = choice.known.of_bytes(path, identity.sha256) if choice.known else None
+        outcome = _known_outcome(known, target.is_found, choice) or judge_bytes(path, data, choice, target.is_found)
+        return outcome._replace(size=size, identity=identity)
+    except NotMachO:
+        return Outcome(path, SKIPPED)
+    except Exception as error:  # pylint: disable=broad-except # one file without a verdict is not all of them
+        return Outcome(path, NO_VERDICT, size, reason=_reason(error))
+
+
+def outcome_before(target: Target, choice: Choice) -> Optional[Outcome]:
+    """The outcome of a file that need not be read."""
+    if target.outcome or target.contents is not None or not choice.known:
+        return target.outcome
+    return _known_outcome(choice.known.of_file(target.path), target.is_found, choice)
+
+
+def judge_bytes(path: str, data: Contents, choice: Choice, is_found: bool = False) -> Outcome:
+    """Judges the bytes of a file, which was found or is named."""
+    size = len(data)
+    try:
         file = verify(data, choice.profile)
         if choice.refuses_unsupported:
             for part in file.slices:
                 if not isinstance(part, Image):
                     return Outcome(path, REFUSED, size, rule=UNSUPPORTED_SLICE, place=part.place,
                                    unsupported=Unsupported(part.index, part.arch, len(part.bytes)))
-        return Outcome(path, ACCEPTED, size, file.slice_count, extra=choice.extra and choice.extra(file))
+        unmet = choice.policy.judge(file) if choice.policy else ()
+        return Outcome(path, NOT_BY_POLICY if unmet else ACCEPTED, size, file.slice_count,
+                       extra=choice.extra and choice.extra(file), unmet=unmet)
     except Refused as refused:
-        kind = other_kind(refused.rule, refused.place, data)
-        word = SKIPPED if choice.skips_other_kinds and is_told(kind) else REFUSED
-        return Outcome(path, word, size, rule=refused.rule, place=refused.place, kind=kind,
-                       extra=choice.of_refused and choice.of_refused(data, refused))
-    except NotMachO:
-        return Outcome(path, SKIPPED)
-    except Exception as error:  # pylint: disable=broad-except # one file without a verdict is not all of them
-        return Outcome(path, NO_VERDICT, size, reason=_reason(error))
+        return _chosen(Outcome(path, REFUSED, size, rule=refused.rule, place=refused.place,
+                               kind=other_kind(refused.rule, refused.place, data),
+                               extra=choice.of_refused and choice.of_refused(data, refused)), is_found, choice)
+
+
+def _known_outcome(known: Optional[Outcome], is_found: bool, choice: Choice) -> Optional[Outcome]:
+    """What is known, if it is enough: a policy is asked of each file that the profile accepts."""
+    if known is None or (choice.policy and known.word == ACCEPTED):
+        return None
+    return _chosen(known, is_found, choice)
+
+
+def _chosen(outcome: Outcome, is_found: bool, choice: Choice) -> Outcome:
+    """The outcome of a file, with another word if it is refused and says that it is of another kind."""
+    is_other = outcome.word == REFUSED and is_told(outcome.kind)
+    return outcome._replace(word=_word_of_kind(is_found, choice)) if is_other else outcome
+
+
+def _settled(stamps: List[Stamp], began: int) -> Optional[Stamp]:
+    """The stamp of a file, if nothing has changed it while it was read, or just before that."""
+    is_settled = len(set(stamps)) == 1 and stamps[0].changed + SETTLED_NS < began
+    return stamps[0] if is_settled else None
+
+
+def _word_of_kind(is_found: bool, choice: Choice) -> str:
+    """What a refused file is that says it is of another kind."""
+    if choice.skips_other_kinds:
+        return SKIPPED
+    return OTHER_KIND if is_found and not choice.fails_other_kinds else REFUSED
 
 
 def _reason(error: BaseException) -> str:
@@ -180,31 +338,46 @@ def _killed(target: Target) -> Outcome:
     return Outcome(target.path, NO_VERDICT, reason="the process that judged it has ended")
 
 
-def judge_all(paths: List[str], choice: Choice, jobs: int) -> Iterator[Outcome]:
+def targets_of(paths: Iterable[str], choice: Choice) -> Iterator[Target]:
+    """The files to judge, with the members of archives."""
+    targets = find(paths, choice)
+    return open_archives(targets, choice) if choice.walks else targets
+
+
+def judge_all(paths: Iterable[str], choice: Choice, jobs: int) -> Iterator[Outcome]:
     """The outcomes of all files, in the order in which they are found. No more than some hundred are held at once."""
-    return map_in_processes(partial(judge, choice=choice), find(paths, choice), jobs, _killed, _is_input)
+    return map_in_processes(partial(judge, choice=choice), targets_of(paths, choice), jobs, _killed, is_input, weight_of)
 
 
-def _is_input(target: Target) -> bool:
+def is_input(target: Target) -> bool:
     """Standard input is read by this process, whose position in it is the one that counts."""
     return target.path == "-"
 
 
 class Summary:
-    """How many files there are of each kind, and how many each rule refuses."""
+    """How many files there are of each kind, how many each rule refuses, and how many do not meet each key of the
+    policy, if there is one."""
 
-    def __init__(self) -> None:
+    def __init__(self, has_policy: bool = False) -> None:
         self.words: Counter[str] = Counter()
         self.rules: Counter[str] = Counter()
+        self.keys: Counter[str] = Counter()
+        self.has_policy = has_policy
         self.other_kinds = 0
+        self.known = 0
         self.size = 0
+        self.worst = 0
+        self.is_interrupted = False
 
     def add(self, outcome: Outcome) -> None:
         self.words[outcome.word] += 1
         if outcome.word == REFUSED:
             self.rules[str(outcome.rule)] += 1
+        self.keys.update(list(dict.fromkeys(unmet.key for unmet in outcome.unmet)))
         self.other_kinds += outcome.word == REFUSED and outcome.kind is not None
+        self.known += outcome.word == REFUSED and outcome.is_known
         self.size += outcome.size
+        self.worst = max(self.worst, outcome.status)
 
     @property
     def files(self) -> int:
@@ -212,13 +385,22 @@ class Summary:
 
     @property
     def status(self) -> int:
-        return max((STATUSES[word] for word, count in self.words.items() if count), default=0)
+        """That of the command, in a shell."""
+        return INTERRUPTED_STATUS if self.is_interrupted else self.worst
 
     def __str__(self) -> str:
-        kinds = f" ({self.other_kinds} of another kind)" if self.other_kinds else ""
-        return (f"{self.words[ACCEPTED]} accepted, {self.words[REFUSED]} refused{kinds}, "
-                f"{self.words[NO_VERDICT]} without verdict, {self.words[SKIPPED]} skipped")
+        some = [f"{count} {what}" for count, what in ((self.other_kinds, "of another kind"), (self.known, "known"))
+                if count]
+        notes = f" ({', '.join(some)})" if some else ""
+        policy = f"{self.words[NOT_BY_POLICY]} {NOT_BY_POLICY}, " if self.has_policy else ""
+        others = f", {self.words[OTHER_KIND]} of another kind" if self.words[OTHER_KIND] else ""
+        return (f"{self.words[ACCEPTED]} accepted, {policy}{self.words[REFUSED]} refused{notes}, "
+                f"{self.words[NO_VERDICT]} without verdict, {self.words[SKIPPED]} skipped{others}")
 
     def object(self) -> Dict[str, int]:
-        return {"accepted": self.words[ACCEPTED], "refused": self.words[REFUSED], "other_kinds": self.other_kinds,
+        interrupted = {"interrupted": True} if self.is_interrupted else {}
+        policy = {"not_by_policy": self.words[NOT_BY_POLICY]} if self.has_policy else {}
+        known = {"known": self.known} if self.known else {}
+        return {**interrupted, "accepted": self.words[ACCEPTED], **policy, "refused": self.words[REFUSED],
+                "other_kinds": self.other_kinds + self.words[OTHER_KIND], **known,
                 "no_verdict": self.words[NO_VERDICT], "skipped": self.words[SKIPPED], "status": self.status}

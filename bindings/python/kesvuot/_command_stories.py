@@ -206,4 +206,4 @@ def command_content(it: Teller) -> Story:
     if it.value < it.limit:
         return it.story(f"{it.at} has a cmdsize of {it.value}, and its structure has {it.limit} bytes.", "cmdsize",
                         "size of the structure")
-    return it.story(f"{it.at} {Content(it).fault()}.", "cmdsize", "size of the structure")
+    return it.story(f"{it.at} {Content(it).fault()}.", "cmdsize")

@@ -19,7 +19,7 @@ from ._names import command_name
 from ._output import GREEN, RED, Output, coloured, say
 from ._parts import image_parts, slices_of
 from ._profiles import PROFILES, later
-from ._reports import check_object, link, reason_text, rule_text, shown
+from ._reports import PAGES, check_object, link, reason_text, rule_text, shown
 from ._rules import RULES
 from ._show import columns
 from ._stories import Told, told_of
@@ -111,7 +111,7 @@ def _accepted(outcome: Outcome, profile: str) -> Iterator[str]:
         yield "Not judged:"
     for name, what in outcome.extra:
         yield from _wrapped(f"{name}: {what}", "  ", "    ")
-    yield from _wrapped(f"See {PROFILES[profile].leaves} for what is not judged in any file.", "")
+    yield from _wrapped(f"See {PAGES.link(PROFILES[profile].leaves)} for what is not judged in any file.", "")
 
 
 def _wrapped(text: str, first: str, rest: Optional[str] = None) -> List[str]:

@@ -10,9 +10,9 @@ from functools import cached_property, lru_cache, partial
 from typing import Any, Dict, NamedTuple, Optional, SupportsIndex, Tuple, Union
 from uuid import UUID
 
-from . import _exports, _library, _opcodes, _reading, _rows
+from . import _exports, _fixups, _library, _reading, _rows
+from ._fixups import Fixup, Import
 from ._library import CHANGED, EXPORT, IMAGE, SPAN, TEXT, VERDICT, Bytes, Data, address_of, load
-from ._opcodes import Bind, Rebase
 from ._profiles import DEFAULT, PROFILES
 from ._rows import (
     Blob, Build, Command, DataInCode, Export, Library, NamedReader, Reader, Relocation, Section, Segment, Table, Walk,
@@ -395,28 +395,22 @@ class Image(Slice):
         return data if status == _library.OK else None
 
     @property
-    def rebases(self) -> Walk[Rebase]:
-        """The pointers to which a dynamic loader adds the slide: the slots of the rebase opcodes of LC_DYLD_INFO or
-        LC_DYLD_INFO_ONLY, in their order. Those of chained fixups are not among them. Each loop follows the opcodes
-        again, as far as it goes. It raises OpcodeError at an opcode that cannot be followed: then the linked profile
-        refuses the file."""
-        return Walk(partial(_opcodes.rebases, self._data, self))
+    def fixups(self) -> Walk[Fixup]:
+        """The pointers that a dynamic loader writes, in the order in which it writes them: by LC_DYLD_CHAINED_FIXUPS if
+        the image has that command, otherwise by the opcodes of LC_DYLD_INFO or LC_DYLD_INFO_ONLY. In a file that the
+        linked profile accepts these are all, and there are fewer than the file has bytes. In any other kesvuot.h says
+        at kesvuot_read_fixups where they end, and there can be 2^64 of them. Each loop reads them again, as far as it
+        goes. A bind has the index of its import:
+
+            imports = list(image.imports)
+            names = [imports[it.import_index].name for it in image.fixups if it.import_index is not None]"""
+        return Walk(partial(_fixups.fixups, self._data, self._image))
 
     @property
-    def binds(self) -> Walk[Bind]:
-        """The same for the bind opcodes: the pointers where a loader stores the address of a symbol."""
-        return Walk(partial(_opcodes.binds, self._data, self, _opcodes.BIND))
-
-    @property
-    def weak_binds(self) -> Walk[Bind]:
-        """The same for the weak bind opcodes, whose symbols several images may define. A symbol that is named there but
-        bound nowhere, such as a strong definition, is not among them."""
-        return Walk(partial(_opcodes.binds, self._data, self, _opcodes.WEAK_BIND))
-
-    @property
-    def lazy_binds(self) -> Walk[Bind]:
-        """The same for the lazy bind opcodes: the pointers that are bound when they are first called."""
-        return Walk(partial(_opcodes.binds, self._data, self, _opcodes.LAZY_BIND))
+    def imports(self) -> Walk[Import]:
+        """What the binds among the fixups are bound to. Chained fixups have a table of them. Each opcode that binds
+        pointers has a row, so two rows can have one name."""
+        return Walk(partial(_fixups.imports, self._data, self._image))
 
     def at(self, address: SupportsIndex) -> Source:
         """What is at an address. Each call rescans the load commands: for many addresses, look them up in

@@ -26,7 +26,7 @@ JAVA_VERSION, JAVA_TAGS = 45, frozenset({1, *range(3, 13), *range(15, 21)})
 def other_kind(rule: str, place: int, data: Contents) -> Optional[str]:
     """The kind of a file that broke the rule at the place, or None if its kind is one that is judged."""
     if rule == "magic":
-        return _kind_of_beginning(data[:16]) or (None if data[:4] in MACH_O_MAGICS else UNKNOWN)
+        return _kind_of_beginning(data[:16]) or (None if bytes(data[:4]) in MACH_O_MAGICS else UNKNOWN)
     if rule == "file-type":
         filetype = int.from_bytes(data[place:place + 4], "little")
         return None if filetype in JUDGED_FILETYPES else FILETYPES.get(filetype)

@@ -4,19 +4,19 @@ from __future__ import annotations
 
 from typing import Any, Dict, Iterator, List, NamedTuple, Optional, Tuple
 
+from ._entitlements import Unreadable, entitlement_values
 from ._files import File, Image, Slice
-from ._names import hash_type_name
+from ._names import hash_type_name, plain, signature_flags
 from ._rows import CodeDirectory, Library
-from .constants import CS_CDHASH_LEN, CSSLOT_ALTERNATE_CODEDIRECTORIES, CSSLOT_CODEDIRECTORY
+from .constants import (
+    CS_CDHASH_LEN, CSSLOT_ALTERNATE_CODEDIRECTORIES, CSSLOT_CODEDIRECTORY, EXPORT_SYMBOL_FLAGS_KIND_ABSOLUTE,
+    EXPORT_SYMBOL_FLAGS_KIND_MASK, EXPORT_SYMBOL_FLAGS_KIND_THREAD_LOCAL, EXPORT_SYMBOL_FLAGS_WEAK_DEFINITION)
 
 # The slots of code directories.
 DIRECTORY_SLOTS = {
     CSSLOT_CODEDIRECTORY, *range(CSSLOT_ALTERNATE_CODEDIRECTORIES, CSSLOT_ALTERNATE_CODEDIRECTORIES + 5)}
-
-
-def plain(name: memoryview) -> str:
-    """A name, with numbers for a quote, a backslash and all that is not printable ASCII."""
-    return "".join(chr(byte) if 0x20 <= byte <= 0x7E and byte not in b'"\\' else f"\\x{byte:02x}" for byte in name)
+# The names of exports have together no more bytes than this. In a hostile file they can be far longer than the trie.
+MOST_NAMES = 1 << 26
 
 
 def _row_object(row: Any) -> Dict[str, Any]:
@@ -42,7 +42,7 @@ class CdHash(NamedTuple):
 
 def cdhashes_of(image: Image) -> Iterator[CdHash]:
     """Those of the code directories, in the order of the index, as far as the types of their hashes are known."""
-    for slot, directory in _directories_of(image):
+    for slot, directory in directories_of(image):
         digest = directory.digest()
         if digest:
             yield CdHash(slot, hash_type_name(directory.hash_type), digest[:CS_CDHASH_LEN].hex(), digest.hex())
@@ -59,18 +59,21 @@ class Signature(NamedTuple):
     hash_type: str
 
 
-def signature_of(image: Image) -> Optional[Signature]:
-    """That of the main code directory, or if it cannot be read of the first that can. None if there is no such one: the
-    image has no signature, or one that is malformed."""
-    main = min(_directories_of(image), key=lambda found: found[0] != CSSLOT_CODEDIRECTORY, default=None)
-    if main is None:
-        return None
-    slot, directory = main
-    return Signature(slot, plain(directory.identifier) or None, plain(directory.team) or None, directory.flags,
-                     hash_type_name(directory.hash_type))
+def signatures_of(image: Image) -> List[Signature]:
+    """What the code directories that can be read say: that of slot 0 first. None if the image has no signature, or one
+    that is malformed."""
+    found = [Signature(slot, plain(directory.identifier) or None, plain(directory.team) or None, directory.flags,
+                       hash_type_name(directory.hash_type)) for slot, directory in directories_of(image)]
+    return sorted(found, key=lambda it: it.slot != CSSLOT_CODEDIRECTORY)
 
 
-def _directories_of(image: Image) -> Iterator[Tuple[int, CodeDirectory]]:
+def disagreements(main: Signature, other: Signature) -> Dict[str, Any]:
+    """In what another directory says something else than the main one, and what. Each has hashes of its own type."""
+    return {name: value for name, value in other._asdict().items()
+            if name not in ("slot", "hash_type") and value != getattr(main, name)}
+
+
+def directories_of(image: Image) -> Iterator[Tuple[int, CodeDirectory]]:
     """The code directories that can be read, each with the slot of its blob, in the order of the index."""
     for blob in image.blobs:
         directory = blob.code_directory() if blob.slot in DIRECTORY_SLOTS else None
@@ -97,15 +100,56 @@ def slice_objects(file: File) -> List[Dict[str, Any]]:
     return list(map(_slice_object, file.slices))
 
 
-def layout_objects(file: File) -> List[Dict[str, Any]]:
-    """An object for each slice, with all but the symbols and the indirect entries."""
+class NamedExport(NamedTuple):
+    """An export: its name, its address if it has one, and what it is, in words."""
+
+    name: str
+    address: Optional[int]
+    what: str
+
+
+def exports_of(image: Image) -> Iterator[NamedExport]:
+    """The exports, up to that with which the names have too many bytes."""
+    size = 0
+    for name, export in image.exports:
+        size += len(name)
+        if size > MOST_NAMES:
+            return
+        if export.ordinal is not None:
+            other = plain(export.name) if export.name else ""
+            what = f"re-export of library {export.ordinal}" + (f", as {other}" if other else "")
+        else:
+            kind = export.flags & EXPORT_SYMBOL_FLAGS_KIND_MASK
+            what = {EXPORT_SYMBOL_FLAGS_KIND_THREAD_LOCAL: "thread-local",
+                    EXPORT_SYMBOL_FLAGS_KIND_ABSOLUTE: "absolute"}.get(kind, "regular")
+            what += "" if export.resolver is None else f", resolver {export.resolver:#x}"
+        is_weak = export.flags & EXPORT_SYMBOL_FLAGS_WEAK_DEFINITION
+        yield NamedExport(plain(memoryview(name)), export.address, f"{what}, weak" if is_weak else what)
+
+
+def layout_objects(file: File, has_all: bool = False) -> List[Dict[str, Any]]:
+    """An object for each slice, without the symbols and the indirect entries, and with the exports if all is wanted."""
     return [{"index": part.index, "cputype": part.cputype, "cpusubtype": part.cpusubtype, **_slice_object(part),
-             **(_tables(part) if isinstance(part, Image) else {})} for part in file.slices]
+             **(_tables(part, has_all) if isinstance(part, Image) else {})} for part in file.slices]
 
 
-def _tables(image: Image) -> Dict[str, Any]:
-    signature = signature_of(image)
-    return {"thread_entry": image.thread_entry, "signature": signature and signature._asdict(),
+def _signature_object(signature: Signature) -> Dict[str, Any]:
+    return {**signature._asdict(), "flag_names": signature_flags(signature.flags)}
+
+
+def _entitlements(image: Image) -> Optional[Dict[str, Any]]:
+    """The entitlements. None if there are none, or if they cannot be read."""
+    try:
+        return entitlement_values(image) or None
+    except Unreadable:
+        return None
+
+
+def _tables(image: Image, has_all: bool) -> Dict[str, Any]:
+    signatures = list(map(_signature_object, signatures_of(image)))
+    exports = {"exports": [export._asdict() for export in exports_of(image)]} if has_all else {}
+    return {**exports, "thread_entry": image.thread_entry, "signature": signatures[0] if signatures else None,
+            "other_signatures": signatures[1:], "entitlements": _entitlements(image),
             "cdhashes": [cdhash._asdict() for cdhash in cdhashes_of(image)],
             "symtab": image.symtab and image.symtab._asdict(),
             "dysymtab": image.dysymtab and image.dysymtab._asdict(),

@@ -113,6 +113,8 @@ def _declare(library: Any) -> None:
         "kesvuot_index_symbols": (size, [pointer, size, pointer, pointer, size]),
         "kesvuot_find_symbol": (u32, [pointer, size, pointer, pointer, size, u64, pointer, pointer]),
         "kesvuot_find_name": (u32, [pointer, size, pointer, pointer, size, pointer, pointer]),
+        "kesvuot_read_fixups": (size, [pointer, size, pointer, pointer, pointer, size]),
+        "kesvuot_read_imports": (size, [pointer, size, pointer, pointer, pointer, size]),
         "kesvuot_find_export": (u32, [pointer, size, pointer, pointer, size, pointer]),
         "kesvuot_find_export_trie": (u32, [pointer, size, pointer, pointer]),
         "kesvuot_read_export_node": (u32, [pointer, size, pointer, pointer, u64, pointer]),

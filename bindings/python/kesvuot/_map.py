@@ -91,7 +91,7 @@ def page_of(outcome: Outcome, profile: str) -> Iterator[str]:
     before, _, after = (pkgutil.get_data(__package__, PAGE) or b"").decode("utf-8").partition(PLACE)
     parts: List[Part] = outcome.extra.parts
     told = outcome.extra.told
-    marks = marks_of(told.case.explanation, parts) if told else Marks([], [])
+    marks = marks_of(told.case.explanation, parts, outcome.extra.size) if told else Marks([], [])
     kept = _kept(parts, marks)
     yield before
     yield from _json(_object(outcome, profile, marks, kept), [parts[number] for number in kept])
@@ -157,24 +157,48 @@ def _part_object(part: Part, size: int) -> Dict[str, Any]:
 # The parts that conflict
 
 
-def marks_of(explanation: Explanation, parts: List[Part]) -> Marks:
-    """What is marked in a refused file."""
+def marks_of(explanation: Explanation, parts: List[Part], size: int) -> Marks:
+    """What is marked in a refused file of this many bytes. In place of a part that is not drawn, because it has neither
+    bytes of the file nor addresses, the command or the entry that describes it is marked."""
+    marks = _marks_of(explanation, parts, size)
+    broken, others = ([it for number in some for it in _drawn(number, parts, size)] for some in marks)
+    return Marks(broken, sorted(set(others) - set(broken)))
+
+
+def _marks_of(explanation: Explanation, parts: List[Part], size: int) -> Marks:
     it = explanation
     # The parts before and after a byte have nothing to do with it, nor has that with the base, from which an entry
     # counts, with the entry.
     is_base = it.first and it.first.kind == "segment-memory" and it.first.described != it.at.described
     if it.at.kind == "byte":
-        return Marks(_holding(it.at.start, parts), [])
+        return Marks(_holding(it.at.start, parts, size), [])
     broken = [] if is_base else _same(it.first, parts)
-    broken = broken or _same(it.at, parts) or _holding(it.at.start, parts)
+    broken = broken or _same(it.at, parts) or _holding(it.at.start, parts, size)
     return Marks(broken, sorted(set(_same(it.second, parts)) - set(broken)))
+
+
+def _drawn(number: int, parts: List[Part], size: int) -> List[int]:
+    part = parts[number]
+    if part.start < min(part.start + part.size, size) or _is_in_memory(part, parts):
+        return [number]
+    return [] if part.described is None else _holding(part.described, parts, size)
+
+
+def _is_in_memory(part: Part, parts: List[Part]) -> bool:
+    """Whether the address space shows a part: a segment with addresses, or a section in one."""
+    ends = (part.address, part.address + part.memory - 1)
+    return part.memory > 0 and any(
+        it.kind == "segment" and it.slice == part.slice and it.address <= end < it.address + it.memory
+        for it in parts for end in ends)
 
 
 def _same(wanted: Optional[FilePart], parts: List[Part]) -> List[int]:
     return [] if wanted is None else [number for number, part in enumerate(parts) if is_same(part, wanted)][:1]
 
 
-def _holding(place: int, parts: List[Part]) -> List[int]:
-    """The least part that has a place: of some of one size the last, as of bytes that are all of a gap."""
-    holding = [number for number, part in enumerate(parts) if part.start <= place < part.start + part.size]
+def _holding(place: int, parts: List[Part], size: int) -> List[int]:
+    """The least part with bytes of the file that has a place: of some of one size the last, as of bytes that are all of
+    a gap."""
+    holding = [number for number, part in enumerate(parts)
+               if part.start < size and part.start <= place < part.start + part.size]
     return [min(holding, key=lambda number: (parts[number].size, -number))] if holding else []

@@ -2,6 +2,8 @@
 
 from __future__ import annotations
 
+from typing import List
+
 from . import constants
 from .constants import (
     LC_ID_DYLIB, LC_LAZY_LOAD_DYLIB, LC_LOAD_DYLIB, LC_LOAD_UPWARD_DYLIB, LC_LOAD_WEAK_DYLIB, LC_REEXPORT_DYLIB)
@@ -46,10 +48,20 @@ BIND_OPCODES = (
 HASH_TYPES = {number: name[len("CS_HASHTYPE_"):].lower().replace("_", "-")
               for name, number in vars(constants).items() if name.startswith("CS_HASHTYPE_")}
 
+# The flags of a code directory: the words of `codesign`.
+SIGNATURE_FLAGS = {
+    0x1: "host", 0x2: "adhoc", 0x100: "hard", 0x200: "kill", 0x400: "expires", 0x800: "restrict", 0x1000: "enforcement",
+    0x2000: "library-validation", 0x10000: "runtime", 0x20000: "linker-signed"}
+
 # VM_PROT_READ, VM_PROT_WRITE and VM_PROT_EXECUTE.
 PROTECTIONS = ("read", "write", "execute")
 
 UNITS = ("B", "KiB", "MiB", "GiB", "TiB", "PiB", "EiB")
+
+
+def plain(name: memoryview) -> str:
+    """A name, with numbers for a quote, a backslash and all that is not printable ASCII."""
+    return "".join(chr(byte) if 0x20 <= byte <= 0x7E and byte not in b'"\\' else f"\\x{byte:02x}" for byte in name)
 
 
 def command_name(cmd: int) -> str:
@@ -68,6 +80,12 @@ def platform_name(number: int) -> str:
 
 def hash_type_name(number: int) -> str:
     return HASH_TYPES.get(number, f"hash type {number}")
+
+
+def signature_flags(flags: int) -> List[str]:
+    """The words for the flags of a code directory, and a number for those that have none."""
+    rest = flags & ~sum(SIGNATURE_FLAGS)
+    return [*(word for bit, word in SIGNATURE_FLAGS.items() if flags & bit), *([f"{rest:#x}"] if rest else [])]
 
 
 def version_text(number: int) -> str:

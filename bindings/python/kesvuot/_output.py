@@ -2,16 +2,35 @@
 
 from __future__ import annotations
 
+import codecs
 import io
 import os
 import signal
 import sys
-from typing import Callable
+from typing import Callable, Tuple
 
 from ._progress import is_terminal
 
 # What a terminal shows in which colour (ECMA-48).
 GREEN, RED, YELLOW, PLAIN = "\033[32m", "\033[31m", "\033[33m", "\033[0m"
+
+
+# What an encoding does with a letter that it does not have: its bytes are written as numbers.
+AS_BYTES = "kesvuot.bytes"
+
+
+def as_bytes(letters: str) -> str:
+    """The bytes of some letters of a path, as numbers."""
+    return "".join(f"\\x{byte:02x}" for byte in letters.encode("utf-8", "surrogateescape"))
+
+
+def _encoded(error: UnicodeError) -> Tuple[str, int]:
+    if not isinstance(error, UnicodeEncodeError):
+        raise error
+    return as_bytes(error.object[error.start:error.end]), error.end
+
+
+codecs.register_error(AS_BYTES, _encoded)
 
 
 class WriteFailed(Exception):
@@ -21,17 +40,26 @@ class WriteFailed(Exception):
         super().__init__(reason)
 
 
+class ReaderGone(WriteFailed):
+    """Whoever read standard output reads no more, as `head` does after its lines."""
+
+
+def write_failed(error: OSError) -> WriteFailed:
+    """What to raise after such an error of standard output."""
+    return ReaderGone() if isinstance(error, BrokenPipeError) else WriteFailed()
+
+
 class Output:
     """Standard output. Before each text, the last line of the terminal is cleared."""
 
-    def __init__(self, encoding: str = "", errors: str = "backslashreplace") -> None:
+    def __init__(self, encoding: str = "", errors: str = AS_BYTES) -> None:
         if not isinstance(sys.stdout, io.TextIOWrapper):
             raise WriteFailed
         try:
             # A path may have letters that the encoding does not. What was written before goes out first.
             sys.stdout.reconfigure(encoding=encoding or None, errors=errors)
         except OSError as error:
-            raise WriteFailed from error
+            raise write_failed(error) from error
         self.stream = sys.stdout
         self.clear: Callable[[], None] = lambda: None
 
@@ -40,13 +68,13 @@ class Output:
         try:
             self.stream.write(text)
         except OSError as error:
-            raise WriteFailed from error
+            raise write_failed(error) from error
 
     def flush(self) -> None:
         try:
             self.stream.flush()
         except OSError as error:
-            raise WriteFailed from error
+            raise write_failed(error) from error
 
 
 def has_colours(stream: object) -> bool:
@@ -62,6 +90,8 @@ def open_errors() -> None:
     """Standard error, which argparse needs, goes nowhere if it is closed."""
     if sys.stderr is None:
         sys.stderr = open(os.devnull, "w", encoding="ascii")  # pylint: disable=consider-using-with
+    elif isinstance(sys.stderr, io.TextIOWrapper):
+        sys.stderr.reconfigure(errors=AS_BYTES)
 
 
 def say(text: str) -> None:
@@ -80,8 +110,7 @@ def discard(descriptor: int) -> None:
         os.dup2(null, descriptor)
 
 
-def end_at_interrupts() -> None:
-    """Control-C ends the process at once and without a traceback, also in the middle of a call: with the status 130 in
-    a shell. It is ignored where whoever has started the process wants it so."""
-    if signal.getsignal(signal.SIGINT) is signal.default_int_handler:
-        signal.signal(signal.SIGINT, signal.SIG_DFL)
+def end_by(number: int) -> None:
+    """Ends this process by a signal, as it ends one that does nothing about it: nothing more is written."""
+    signal.signal(number, signal.SIG_DFL)
+    os.kill(os.getpid(), number)

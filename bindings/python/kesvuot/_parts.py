@@ -10,8 +10,7 @@ from struct import Struct
 from typing import Any, Callable, Dict, Iterable, Iterator, List, NamedTuple, Optional, Sequence, Tuple
 
 from ._files import ARCHITECTURES, File, Image
-from ._layout import plain
-from ._names import FILETYPES, LIBRARIES, command_name, protection_text
+from ._names import FILETYPES, LIBRARIES, command_name, plain, protection_text
 from ._structures import LISTED, UNLISTED, number_in, size_of, structure_of
 from .constants import (
     CPU_TYPE_ARM64, CPU_TYPE_X86_64, LC_BUILD_VERSION, LC_DYLD_ENVIRONMENT, LC_DYLIB_CODE_SIGN_DRS,
@@ -199,7 +198,7 @@ def image_parts(data: memoryview, part: Part, accepted: Optional[Image] = None,
             place = part.start + command.place
             yield from _runs(data, (place + start, place + stop), part.slice, None)
     if not walk.is_whole:
-        size = int.from_bytes(image[end + 4:end + 8], "little")
+        size = max(int.from_bytes(image[end + 4:end + 8], "little"), COMMAND.size)
         yield Part("broken walk", "where the load commands cannot be followed", 3, part.start + end, size, part.slice,
                    part.start + end)
     elif end < HEADER.size + sizeofcmds:

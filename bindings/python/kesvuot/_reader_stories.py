@@ -6,8 +6,7 @@ from typing import Dict, Iterator, List, Optional, Tuple
 
 from ._case import GROUPS, cut
 from ._explanation import Part as FilePart
-from ._layout import plain
-from ._names import FILETYPES, hash_type_name, platform_name, protection_text
+from ._names import FILETYPES, hash_type_name, plain, platform_name, protection_text
 from ._parts import arch_name
 from ._structures import directory_size, field_of, number_in
 from ._teller import Story, Teller

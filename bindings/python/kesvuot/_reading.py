@@ -7,7 +7,7 @@ import errno
 import mmap
 import os
 import stat
-from typing import Any, Union
+from typing import Any, List, NamedTuple, Optional, Union
 
 # The most bytes of a file that is judged. macho-check has the same limit.
 LIMIT = 1 << 32
@@ -32,22 +32,40 @@ class NotMachO(Exception):
     """What was found in a folder is no file of Mach-O, by its kind or its first bytes."""
 
 
-def read_given(path: str, maps: bool = False) -> Contents:
-    """The bytes of a file that the user has named; `-` is standard input. For a file that is refused by its first bytes
-    they may be no more than these. A regular file that has to be read whole is mapped if `maps`, but standard input is
-    read. Raises OSError, MemoryError or Unread."""
+class Stamp(NamedTuple):
+    """By what a file system shows that a file has changed: its inode, its size, and the nanoseconds at which its bytes
+    and anything of it have changed."""
+
+    inode: int
+    size: int
+    modified: int
+    changed: int
+
+
+# Where the stamps of a file go, before and after it is read. It is then read whole.
+Stamps = Optional[List[Stamp]]
+
+
+def stamp_of(known: os.stat_result) -> Stamp:
+    return Stamp(known.st_ino, known.st_size, known.st_mtime_ns, known.st_ctime_ns)
+
+
+def read_given(path: str, maps: bool = False, stamps: Stamps = None, head: bytes = b"") -> Contents:
+    """The bytes of a file that the user has named; `-` is standard input, of which `head` is read already. For a file
+    that is refused by its first bytes they may be no more than these. A regular file that has to be read whole is
+    mapped if `maps`, but standard input is read. Raises OSError, MemoryError or Unread."""
     if path == "-":
-        return _read(0, os.fstat(0))
+        return _read(0, os.fstat(0), stamps=stamps, head=head)
     # Opening a device may do something.
     mode = os.stat(path).st_mode
     if stat.S_ISCHR(mode) or stat.S_ISBLK(mode):
         raise Unread("a device is not read")
-    return _open_and_read(path, 0, maps)
+    return _open_and_read(path, 0, maps, stamps)
 
 
-def read_found(path: str, maps: bool = False) -> Contents:
+def read_found(path: str, maps: bool = False, stamps: Stamps = None) -> Contents:
     """The bytes of what was found in a folder. A link is not followed, and no pipe waited for. Raises NotMachO too."""
-    return _open_and_read(path, os.O_NOFOLLOW | os.O_NONBLOCK, maps, is_found=True)
+    return _open_and_read(path, os.O_NOFOLLOW | os.O_NONBLOCK, maps, stamps, is_found=True)
 
 
 def read_regular(path: Any) -> Contents:
@@ -74,25 +92,30 @@ def _check_regular(known: os.stat_result, path: Any) -> None:
         raise OSError(errno.EINVAL, "not a regular file", path)
 
 
-def _open_and_read(path: str, flags: int, maps: bool, is_found: bool = False) -> Contents:
+def _open_and_read(path: str, flags: int, maps: bool, stamps: Stamps, is_found: bool = False) -> Contents:
     descriptor = os.open(path, os.O_RDONLY | os.O_CLOEXEC | os.O_NOCTTY | flags)
     try:
-        return _read(descriptor, os.fstat(descriptor), maps, is_found)
+        known = os.fstat(descriptor)
+        data = _read(descriptor, known, maps, stamps, is_found)
+        if stamps is not None:
+            stamps += map(stamp_of, (known, os.fstat(descriptor)))
+        return data
     finally:
         os.close(descriptor)
 
 
-def _read(descriptor: int, known: os.stat_result, maps: bool = False, is_found: bool = False) -> Contents:
+def _read(descriptor: int, known: os.stat_result, maps: bool = False, stamps: Stamps = None, is_found: bool = False,
+          head: bytes = b"") -> Contents:
     """The bytes up to the end, or the first of them if they decide."""
     is_regular = stat.S_ISREG(known.st_mode)
     if is_found and not is_regular:
         raise NotMachO
-    head = _read_head(descriptor)
+    head = head or read_head(descriptor)
     if is_found and head[:4] not in MACH_O_MAGICS:
         raise NotMachO
     if is_regular and known.st_size > LIMIT:
-        raise _too_long()
-    if head[:4] not in JUDGED_MAGICS:
+        raise too_long()
+    if head[:4] not in JUDGED_MAGICS and stamps is None:
         return head
     # A file whose read is short has ended.
     if is_regular and len(head) < HEAD_SIZE and len(head) == known.st_size:
@@ -102,7 +125,7 @@ def _read(descriptor: int, known: os.stat_result, maps: bool = False, is_found: 
     return _read_on(descriptor, bytearray(head))
 
 
-def _read_head(descriptor: int) -> bytes:
+def read_head(descriptor: int) -> bytes:
     """The first bytes. There are fewer than 4 only in a file that is as short."""
     head = os.read(descriptor, HEAD_SIZE)
     while 0 < len(head) < 4:
@@ -121,8 +144,8 @@ def _read_on(descriptor: int, data: bytearray) -> bytearray:
             return data
         data += piece
         if len(data) > LIMIT:
-            raise _too_long()
+            raise too_long()
 
 
-def _too_long() -> Unread:
+def too_long() -> Unread:
     return Unread(f"more than {LIMIT} bytes")

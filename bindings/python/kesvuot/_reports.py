@@ -4,15 +4,36 @@ is kept, however many there are."""
 from __future__ import annotations
 
 import json
+import os
 import tempfile
-from typing import Any, Callable, Dict, Type
+from typing import TYPE_CHECKING, Any, Callable, Dict, Optional, Type
 from urllib.parse import quote
 from xml.sax.saxutils import escape, quoteattr
 
-from ._check import ACCEPTED, NO_VERDICT, REFUSED, SKIPPED, UNSUPPORTED_SLICE, Outcome, Summary
+from . import _policy_reports
+from ._check import (
+    ACCEPTED, NO_VERDICT, NOT_BY_POLICY, OTHER_KIND, REFUSED, SKIPPED, UNSUPPORTED_SLICE, ExtraOfRefused, Outcome,
+    Summary)
+from ._explanation import explain
+from ._files import Refused
+from ._library import INSTALLED
+from ._output import AS_BYTES, as_bytes
+from ._reading import Contents
 from ._rules import RULES, Rule
 
+if TYPE_CHECKING:
+    from ._policy import Policy
+
 Write = Callable[[str], Any]
+
+# What is said of a run that Control-C has ended.
+INTERRUPTED = "interrupted: not all files were judged"
+
+# The version of the package (VERSION).
+VERSION = "2.0.0"
+
+# How some letters of a path are written.
+ESCAPES = {"\\": r"\\", "\n": r"\n", "\r": r"\r", "\t": r"\t"}
 
 # The form of the objects of JSON. A field may be added without a new version.
 CHECK_VERSION = 1
@@ -32,8 +53,24 @@ RULES_AND_CHOICES: Dict[str, Rule] = {**RULES, UNSUPPORTED_SLICE: Rule(
 
 
 def shown(path: str) -> str:
-    """A path on one line."""
-    return "".join(letter if letter.isprintable() else ascii(letter)[1:-1] for letter in path)
+    """A path on one line, which no other path has: a backslash has another before it, and what cannot be printed is
+    written as the numbers of its bytes."""
+    return "".join(ESCAPES.get(letter) or (letter if letter.isprintable() else as_bytes(letter)) for letter in path)
+
+
+def file_object(path: str) -> Dict[str, str]:
+    """A path, for JSON, whose texts have no half of a letter. Bytes that are not UTF-8 are written as numbers, and all
+    bytes are there too, in hexadecimal."""
+    try:
+        path.encode("utf-8")
+        return {"file": path}
+    except UnicodeEncodeError:
+        return {"file": shown(path), "name": shown(path), "name_bytes": os.fsencode(path).hex()}
+
+
+def located(path: str) -> str:
+    """A path for a tool that opens the file: as it is, if it can be written."""
+    return path if path.isprintable() else shown(path)
 
 
 def rule_text(rule: str) -> str:
@@ -41,9 +78,36 @@ def rule_text(rule: str) -> str:
     return f"Violated when {RULES_AND_CHOICES[rule].broken}"
 
 
+class Pages:
+    """Where the pages of the rules are: their folder, as a URI that the user gives, or else that of the installation or
+    the repository that the package is in. Where they are not, a link has the name of the page."""
+
+    # The folders, from that of the package or of the installation.
+    OF_INSTALLATION, OF_REPOSITORY = "share/doc/kesvuot/rules", "../../../docs/rules"
+
+    def __init__(self) -> None:
+        self.url = ""
+
+    def link(self, section: str) -> str:
+        """A section of a page, such as `rules/layout.md#magic`."""
+        return f"{self._url()}/{section.partition('/')[2]}"
+
+    def _url(self) -> str:
+        if self.url:
+            return self.url.rstrip("/")
+        package = os.path.dirname(os.path.realpath(__file__))
+        installed = INSTALLED.fullmatch(package)
+        folders = [os.path.join(installed[1], self.OF_INSTALLATION)] if installed else []
+        folders.append(os.path.normpath(os.path.join(package, self.OF_REPOSITORY)))
+        return next((uri(folder) for folder in folders if os.path.isfile(os.path.join(folder, "layout.md"))), "rules")
+
+
+PAGES = Pages()
+
+
 def link(rule: str) -> str:
     """The section of a rule on its page."""
-    return f"{RULES_AND_CHOICES[rule].page}#{rule}"
+    return PAGES.link(f"{RULES_AND_CHOICES[rule].page}#{rule}")
 
 
 def kind_text(outcome: Outcome) -> str:
@@ -57,22 +121,26 @@ def reason_text(outcome: Outcome) -> str:
     """Why a file is not accepted."""
     if outcome.word == NO_VERDICT:
         return f"no verdict: {outcome.reason}"
-    kind = kind_text(outcome)
-    return f"refused: {outcome.refusal}{f' ({kind})' if kind else ''}"
+    notes = "; ".join(filter(None, (kind_text(outcome), "known" if outcome.is_known else "")))
+    return f"refused: {outcome.refusal}{f' ({notes})' if notes else ''}"
 
 
 def check_object(outcome: Outcome) -> Dict[str, Any]:
     """What is said of a file, for JSON (docs/check.schema.json)."""
-    whole: Dict[str, Any] = {"file": outcome.path, "verdict": outcome.word, "status": outcome.status}
+    whole: Dict[str, Any] = {**file_object(outcome.path), "verdict": outcome.word, "status": outcome.status}
     if outcome.word == ACCEPTED:
         whole.update(size=outcome.size, slice_count=outcome.slices)
-    elif outcome.word == REFUSED:
+    elif outcome.word == NOT_BY_POLICY:
+        whole.update(size=outcome.size, slice_count=outcome.slices, policy=_policy_reports.objects(outcome))
+    elif outcome.word in (REFUSED, OTHER_KIND):
         whole.update(rule=outcome.rule, place=outcome.place, text=rule_text(outcome.rule), link=link(outcome.rule),
                      kind=outcome.kind)
         if outcome.unsupported:
             whole.update(slice=outcome.unsupported._asdict())
     else:
         whole.update(verdict=None, error=outcome.reason)
+    if outcome.is_known:
+        whole.update(known=True)
     return whole
 
 
@@ -80,11 +148,19 @@ class Report:
     """A form. `begin` and `end` come once, and `add` for each file that is judged, or skipped."""
 
     # How a letter is written that the encoding of the output does not have.
-    errors = "backslashreplace"
+    errors = AS_BYTES
     # The encoding, if it is not that of the locale.
     encoding = ""
     # What a file can be refused for.
     rules = RULES
+    # The policy that accepted files have to meet too.
+    policy: Optional[Policy] = None
+    # Whether some refusals may be known.
+    has_baseline = False
+    # What is asked of a refused file.
+    of_refused: ExtraOfRefused = None
+    # Whether it is finished after Control-C too, so that a reader of it gets what it can read.
+    is_whole = True
 
     def __init__(self, write: Write, profile: str) -> None:
         self.write = write
@@ -117,8 +193,9 @@ class Json(Report):
     separator = "\n    "
 
     def begin(self) -> None:
+        policy = f'  "policy": {json.dumps(self.policy.path)},\n' if self.policy else ""
         self.write(f'{{\n  "schema": "kesvuot-check",\n  "version": {CHECK_VERSION},\n'
-                   f'  "profile": {json.dumps(self.profile)},\n  "files": [')
+                   f'  "profile": {json.dumps(self.profile)},\n{policy}  "files": [')
 
     def add(self, outcome: Outcome) -> None:
         if outcome.word != SKIPPED:
@@ -137,10 +214,19 @@ def uri(path: str) -> str:
     return f"file://{quoted}" if quoted.startswith("/") else quoted
 
 
-class Sarif(Report):
-    """SARIF 2.1.0: a result for each refused file, and a notification for each without a verdict. The place is the
-    offset of a byte, because the files are no texts."""
+def extent(data: Contents, refused: Refused) -> int:
+    """How many bytes of the file the structure at the place has from there on."""
+    found = explain(data, refused)
+    end = found.at.end if found and found.at else refused.place
+    return max(min(end, len(data)) - refused.place, 0)
 
+
+class Sarif(Report):
+    """SARIF 2.1.0: a result for each refused file and for each key of a policy that a file does not meet, and a
+    notification for each without a verdict. The region is one of bytes, because the files are no texts. It has a line
+    all the same, without which some consumers take no result."""
+
+    of_refused = staticmethod(extent)
     SCHEMA = "https://json.schemastore.org/sarif-2.1.0.json"
 
     def __init__(self, write: Write, profile: str) -> None:
@@ -150,35 +236,59 @@ class Sarif(Report):
         self.numbers = {rule: number for number, rule in enumerate(RULES_AND_CHOICES)}
 
     def begin(self) -> None:
-        rules = ",\n            ".join(json.dumps({
-            "id": name, "name": name.title().replace("-", ""),
-            "shortDescription": {"text": name}, "fullDescription": {"text": rule_text(name)},
-            "help": {"text": f"Why: {rule.why}\nUsual cause: {rule.cause}\nWhat to do: {rule.remedy}\n"
-                             f"See {link(name)}."},
-            "defaultConfiguration": {"level": "error"}}) for name, rule in self.rules.items())
+        rules = ",\n            ".join(map(json.dumps, [
+            *(self._rule(name, rule) for name, rule in self.rules.items()),
+            *_policy_reports.sarif_rules(self.policy)]))
+        properties = {"profile": self.profile, **({"policy": self.policy.path} if self.policy else {})}
         self.write(f'{{\n  "$schema": "{self.SCHEMA}",\n  "version": "2.1.0",\n  "runs": [\n    {{\n'
-                   f'      "tool": {{\n        "driver": {{\n          "name": "kesvuot",\n          "rules": [\n'
+                   f'      "tool": {{\n        "driver": {{\n          "name": "kesvuot",\n'
+                   f'          "version": {json.dumps(VERSION)},\n          "rules": [\n'
                    f'            {rules}\n          ]\n        }}\n      }},\n'
-                   f'      "properties": {{"profile": {json.dumps(self.profile)}}},\n      "results": [')
+                   f'      "properties": {json.dumps(properties)},\n      "results": [')
+
+    @staticmethod
+    def _rule(name: str, rule: Rule) -> Dict[str, Any]:
+        page = link(name)
+        # A helpUri is absolute.
+        uris = {"helpUri": page} if ":" in page else {}
+        return {"id": name, "name": name.title().replace("-", ""), **uris,
+                "shortDescription": {"text": name}, "fullDescription": {"text": rule_text(name)},
+                "help": {"text": f"Why: {rule.why}\nUsual cause: {rule.cause}\nWhat to do: {rule.remedy}\nSee {page}."},
+                "defaultConfiguration": {"level": "error"}}
 
     def add(self, outcome: Outcome) -> None:
         physical: Dict[str, Any] = {"artifactLocation": {"uri": uri(outcome.path)}}
         location = {"physicalLocation": physical}
         if outcome.word == REFUSED:
-            physical["region"] = {"byteOffset": outcome.place, "byteLength": 0}
+            # Of a file that is only compressed, or whose refusal is known, no structure was looked for.
+            size = outcome.unsupported.size if outcome.unsupported else outcome.extra or 0
+            physical["region"] = {"byteOffset": outcome.place, "byteLength": size, "startLine": 1}
             result = {"ruleId": outcome.rule, "ruleIndex": self.numbers[outcome.rule], "level": "error",
                       "message": {"text": f"{reason_text(outcome)}. {rule_text(outcome.rule)}"},
                       "locations": [location], "properties": {"kind": outcome.kind}}
+            if self.has_baseline:
+                result["baselineState"] = "unchanged" if outcome.is_known else "new"
             self.write(self.separator + json.dumps(result))
             self.separator = ",\n        "
+        elif outcome.word == NOT_BY_POLICY:
+            physical["region"] = {"startLine": 1}
+            for result in _policy_reports.sarif_results(outcome, self.policy, len(self.rules), location):
+                self.write(self.separator + json.dumps(result))
+                self.separator = ",\n        "
         elif outcome.word == NO_VERDICT:
-            fault = {"level": "error", "message": {"text": reason_text(outcome)}, "locations": [location]}
-            before = ",\n            " if self.faults.tell() else "\n            "
-            self.faults.write(before + json.dumps(fault))
+            self._notify({"level": "error", "message": {"text": reason_text(outcome)}, "locations": [location]})
+
+    def _notify(self, fault: Dict[str, Any]) -> None:
+        before = ",\n            " if self.faults.tell() else "\n            "
+        self.faults.write(before + json.dumps(fault))
 
     def end(self, summary: Summary) -> None:
+        signals = '          "exitSignalName": "SIGINT",\n' if summary.is_interrupted else ""
+        is_done = summary.words[NO_VERDICT] == 0 and not summary.is_interrupted
+        if summary.is_interrupted:
+            self._notify({"level": "error", "message": {"text": INTERRUPTED}})
         self.write(f'\n      ],\n      "invocations": [\n        {{\n          "executionSuccessful": '
-                   f'{json.dumps(summary.words[NO_VERDICT] == 0)},\n          "exitCode": {summary.status},\n'
+                   f'{json.dumps(is_done)},\n          "exitCode": {summary.status},\n{signals}'
                    '          "toolExecutionNotifications": [')
         copy_text(self.faults, self.write)
         self.write("\n          ]\n        }\n      ]\n    }\n  ]\n}\n")
@@ -198,7 +308,7 @@ def copy_text(source: Any, write: Write) -> None:
 
 
 class Junit(Report):
-    """A test case for each file: a refusal is a failure, and no verdict an error."""
+    """A test case for each file: a refusal is a failure, and no verdict an error. A policy has a suite of its own."""
 
     errors = "xmlcharrefreplace"
     encoding = "ascii"
@@ -206,14 +316,21 @@ class Junit(Report):
     def __init__(self, write: Write, profile: str) -> None:
         super().__init__(write, profile)
         self.cases = tempfile.SpooledTemporaryFile(KEPT_IN_MEMORY, "w+", encoding="utf-8")
+        self.suite = _policy_reports.JunitSuite(KEPT_IN_MEMORY)
 
     def add(self, outcome: Outcome) -> None:
         if outcome.word == SKIPPED:
             return
-        path = quoteattr(shown(outcome.path))
-        start = f'    <testcase classname="kesvuot.{self.profile}" name={path} file={path}'
-        if outcome.word == ACCEPTED:
+        name, path = quoteattr(shown(outcome.path)), quoteattr(located(outcome.path))
+        start = f'    <testcase classname="kesvuot.{self.profile}" name={name} file={path}'
+        if self.policy:
+            self.suite.add(outcome, shown(outcome.path), located(outcome.path))
+        if outcome.word in (ACCEPTED, NOT_BY_POLICY):
             self.cases.write(f"{start}/>\n")
+            return
+        if outcome.word == OTHER_KIND or outcome.is_known:
+            reason = f"{outcome.kind}, not judged" if outcome.word == OTHER_KIND else reason_text(outcome)
+            self.cases.write(f"{start}>\n      <skipped message={quoteattr(reason)}/>\n    </testcase>\n")
             return
         is_refused = outcome.word == REFUSED
         tag, kind = ("failure", outcome.rule) if is_refused else ("error", outcome.word)
@@ -222,24 +339,42 @@ class Junit(Report):
                          f"{text}</{tag}>\n    </testcase>\n")
 
     def end(self, summary: Summary) -> None:
-        tests = sum(summary.words[word] for word in (ACCEPTED, REFUSED, NO_VERDICT))
-        counts = f'tests="{tests}" failures="{summary.words[REFUSED]}" errors="{summary.words[NO_VERDICT]}"'
-        self.write(f'<?xml version="1.0" encoding="UTF-8"?>\n<testsuites name="kesvuot" {counts}>\n'
-                   f'  <testsuite name="kesvuot check, profile {self.profile}" {counts} skipped="0">\n')
+        tests = sum(count for word, count in summary.words.items() if word != SKIPPED)
+        errors, failures = summary.words[NO_VERDICT], summary.words[REFUSED] - summary.known
+        if summary.is_interrupted:
+            tests, errors = tests + 1, errors + 1
+            self.cases.write(f'    <testcase classname="kesvuot.{self.profile}" name="all files">\n'
+                             f'      <error type="interrupted" message="{INTERRUPTED}"/>\n    </testcase>\n')
+        counts = f'tests="{tests}" failures="{failures}" errors="{errors}"'
+        whole = (f'tests="{tests + self.suite.tests}" failures="{failures + self.suite.failures}" '
+                 f'errors="{errors}"')
+        self.write(f'<?xml version="1.0" encoding="UTF-8"?>\n<testsuites name="kesvuot" {whole}>\n'
+                   f'  <testsuite name="kesvuot check, profile {self.profile}" {counts} '
+                   f'skipped="{summary.words[OTHER_KIND] + summary.known}">\n')
         copy_text(self.cases, self.write)
-        self.write("  </testsuite>\n</testsuites>\n")
+        self.write("  </testsuite>\n")
+        if self.policy:
+            self.write(self.suite.head(shown(self.policy.path)))
+            copy_text(self.suite.cases, self.write)
+            self.write("  </testsuite>\n")
+        self.write("</testsuites>\n")
 
     def close(self) -> None:
         self.cases.close()
+        self.suite.close()
 
 
 class GitHub(Report):
-    """A command of GitHub's workflows for each file that is not accepted, and the summary."""
+    """A command of GitHub's workflows for each file that is not accepted and for each key of a policy that a file does
+    not meet, and the summary."""
 
     def add(self, outcome: Outcome) -> None:
-        if outcome.word == REFUSED:
+        if outcome.word == REFUSED and not outcome.is_known:
             self._annotate(outcome, outcome.rule, f"{reason_text(outcome)}. {rule_text(outcome.rule)} "
                                                   f"See {link(outcome.rule)}.")
+        elif outcome.word == NOT_BY_POLICY:
+            for unmet, line in zip(outcome.unmet, _policy_reports.lines(outcome)):
+                self._annotate(outcome, _policy_reports.rule_of(unmet.key), f"{line}. See {_policy_reports.PAGE}.")
         elif outcome.word == NO_VERDICT:
             self._annotate(outcome, outcome.word, reason_text(outcome))
 
@@ -247,8 +382,8 @@ class GitHub(Report):
         def value(word: str) -> str:
             return escaped(word).replace(":", "%3A").replace(",", "%2C")
 
-        path = shown(outcome.path)
-        self.write(f"::error file={value(path)},title={value(f'kesvuot: {title}')}::{escaped(f'{path}: {text}')}\n")
+        message = escaped(f"{shown(outcome.path)}: {text}")
+        self.write(f"::error file={value(located(outcome.path))},title={value(f'kesvuot: {title}')}::{message}\n")
 
     def end(self, summary: Summary) -> None:
         self.write(f"{summary}\n")

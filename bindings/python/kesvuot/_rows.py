@@ -493,7 +493,7 @@ def uncounted(data: Bytes, image: Any, kind: Kind) -> Table[Any]:
 
 
 class Walk(Iterable[Row]):
-    """What a walk over a trie or over opcodes meets. Each loop over it walks again, and keeps nothing."""
+    """What a walk over a trie, opcodes or chains meets. Each loop over it walks again, and keeps nothing."""
 
     def __init__(self, walk: Callable[[], Iterator[Row]]) -> None:
         self._walk = walk

@@ -7,11 +7,12 @@ from functools import partial
 from typing import Any, Callable, Dict, Iterator, List, Tuple
 
 from ._check import ACCEPTED, NO_VERDICT, Choice, Outcome, Target, judge
+from ._entitlements import Unreadable, entitlement_values
 from ._files import File, Image, Slice
-from ._layout import Signature, cdhashes_of, layout_objects, libraries_of, plain, signature_of
+from ._layout import (
+    Signature, cdhashes_of, disagreements, exports_of, layout_objects, libraries_of, signatures_of)
 from ._names import (
-    FILETYPES, LIBRARIES, count_text, platform_name, protection_text, size_text,
-    version_text)
+    FILETYPES, LIBRARIES, count_text, plain, platform_name, protection_text, signature_flags, size_text, version_text)
 from ._output import Output, say
 from ._reports import check_object, reason_text, shown
 from .constants import LC_LOAD_DYLINKER, LC_RPATH
@@ -22,10 +23,10 @@ LAYOUT_VERSION = 1
 Cells = Tuple[str, ...]
 
 
-def show(path: str, profile: str, as_json: bool) -> int:
+def show(path: str, profile: str, as_json: bool, has_all: bool = False) -> int:
     """Prints the layout of a file, or why it has none, and returns the status."""
     output = Output()
-    extra = layout_objects if as_json else _lines
+    extra = partial(layout_objects if as_json else _lines, has_all=has_all)
     outcome = judge(Target(path), Choice(profile, walks=False, extra=extra))
     if as_json:
         output.write(json.dumps(_object(outcome, profile), indent=1) + "\n")
@@ -48,13 +49,13 @@ def _object(outcome: Outcome, profile: str) -> Dict[str, Any]:
     return whole
 
 
-def _lines(file: File) -> Iterator[str]:
+def _lines(file: File, has_all: bool) -> Iterator[str]:
     for part in file.slices:
         yield ""
-        yield from _slice_lines(part)
+        yield from _slice_lines(part, has_all)
 
 
-def _slice_lines(part: Slice) -> Iterator[str]:
+def _slice_lines(part: Slice, has_all: bool) -> Iterator[str]:
     kind = FILETYPES.get(part.filetype, "") if isinstance(part, Image) else "image that is not judged"
     yield f"slice {part.index}: {part.arch} {kind}, {size_text(len(part.bytes))} at {part.place:#x}"
     if isinstance(part, Image):
@@ -65,6 +66,9 @@ def _slice_lines(part: Slice) -> Iterator[str]:
         if libraries_of(part):
             yield ""
             yield from columns(partial(_libraries, part))
+        if has_all:
+            yield ""
+            yield from columns(partial(_exports, part))
 
 
 def columns(rows: Callable[[], Iterator[Cells]]) -> Iterator[str]:
@@ -93,17 +97,41 @@ def _properties(image: Image) -> Iterator[Cells]:
         yield "symbols", str(image.symtab.nsyms)
     entry = image.thread_entry if image.entry is None else image.entry
     yield "entry", "none" if entry is None else f"{entry:#x}"
-    signature = signature_of(image)
-    yield "signature", _signature_text(signature) if signature else "none"
+    signatures = signatures_of(image)
+    yield "signature", signature_text(signatures[0]) if signatures else "none"
+    for other in signatures[1:]:
+        for name, value in disagreements(signatures[0], other).items():
+            text = flags_text(value) if name == "flags" else f'"{value}"' if value else "none"
+            yield "disagrees", f"the directory of slot {other.slot:#x} has the {name} {text}"
     for cdhash in cdhashes_of(image):
         yield "cdhash", f"{cdhash.hash_type} {cdhash.cdhash}"
+    yield from _entitlements(image)
 
 
-def _signature_text(signature: Signature) -> str:
+def signature_text(signature: Signature) -> str:
     """The quotes keep a name apart from what follows it: `plain` leaves none in a name."""
     identifier = f'"{signature.identifier}"' if signature.identifier else "no identifier"
     team = f', team "{signature.team}"' if signature.team else ""
-    return f"{identifier}{team}, flags {signature.flags:#x}, {signature.hash_type}"
+    return (f"{identifier}{team}, flags {flags_text(signature.flags)}, {signature.hash_type}, by the directory of slot "
+            f"{signature.slot:#x}")
+
+
+def flags_text(flags: int) -> str:
+    return f"{flags:#x} ({', '.join(signature_flags(flags)) or 'none'})"
+
+
+def _entitlements(image: Image) -> Iterator[Cells]:
+    try:
+        for name, value in entitlement_values(image).items():
+            yield "entitlement", f"{json.dumps(name)[1:-1]}: {json.dumps(value)}"
+    except Unreadable as error:
+        yield "entitlements", f"cannot be read: {error}"
+
+
+def _exports(image: Image) -> Iterator[Cells]:
+    yield "export", "address", "what"
+    for export in exports_of(image):
+        yield export.name, "none" if export.address is None else f"{export.address:#x}", export.what
 
 
 def _segments(image: Image) -> Iterator[Cells]:

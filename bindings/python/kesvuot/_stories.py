@@ -239,7 +239,7 @@ def _entry(it: Teller) -> Story:
         return it.story(f"the entry is at address {it.value:#x} of {it.second}, whose bytes in the file end at "
                         f"{it.limit:#x}.", "entry address", "vmaddr + filesize")
     return it.story(f"the entry is at address {it.value:#x} of {it.second}, which is not executable: "
-                    f"{protection_text(it.segment_number('initprot'))}.", "entry address", "vmaddr + filesize")
+                    f"{protection_text(it.segment_number('initprot'))}.", "entry address")
 
 
 # The strict profile
@@ -288,8 +288,9 @@ def _table_home(it: Teller) -> Story:
         ("does not have all their bytes", not is_inside), ("is not mapped", not it.segment_number("vmsize")),
         ("cannot be read", not initprot & READ), ("can be written", initprot & WRITE),
         ("is encrypted", flags & SG_PROTECTED_VERSION_1)) if is_so]
+    limit = "fileoff + filesize" if it.value > it.limit else ""
     return it.story(f"the bytes of {it.first} should lie in {it.second}, which {' and '.join(faults)}.",
-                    "end of the table", "fileoff + filesize")
+                    "end of the table", limit)
 
 
 def _header_home(it: Teller) -> Story:
@@ -553,7 +554,7 @@ def _data_in_code(it: Teller) -> Story:
     numbers = "offset + length", "fileoff + filesize"
     if not it.segment_number("initprot") & EXECUTE:
         return it.story(f"{it.first} begins in {it.second}, which is not executable: "
-                        f"{protection_text(it.segment_number('initprot'))}.", *numbers)
+                        f"{protection_text(it.segment_number('initprot'))}.")
     return it.story(f"{it.first} ends at {it.value:#x}, past the bytes of {it.second}, which end at {it.limit:#x}.",
                     *numbers)
 

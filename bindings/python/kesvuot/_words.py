@@ -5,69 +5,111 @@ from __future__ import annotations
 import argparse
 import json
 import os
+import signal
 import sys
-from typing import Any, Callable, Dict, List, Optional
+from typing import TYPE_CHECKING, Any, Callable, Counter, Dict, List, Optional
 
-from . import _check, library_version
-from ._check import ACCEPTED, NO_VERDICT, REFUSED, Choice, Outcome, Summary, judge_all
+from . import _check, _policy_reports, library_version
+from ._archives import MOST_UNPACKED
+from ._check import ACCEPTED, NO_VERDICT, NOT_BY_POLICY, OTHER_KIND, REFUSED, Choice, Outcome, Summary, judge_all
 from ._diff import diff
 from ._explain import explain_file
 from ._files import File
+from ._interrupts import Interrupted, Interrupts, end_at_interrupts
 from ._layout import slice_objects
 from ._map import STANDARD_OUTPUT, map_file
-from ._output import GREEN, RED, YELLOW, Output, WriteFailed, coloured, end_at_interrupts, open_errors, say
+from ._output import GREEN, RED, YELLOW, Output, coloured, end_by, open_errors, say, write_failed
 from ._profiles import DEFAULT, PROFILES
 from ._progress import Progress, is_terminal
-from ._reports import REPORTS, RULES_AND_CHOICES, Report, Write, reason_text, shown
+from ._reports import (
+    INTERRUPTED, PAGES, REPORTS, RULES_AND_CHOICES, VERSION, Report, Write, file_object, reason_text, shown)
 from ._show import columns, show
+from ._stores import add_words, check_words, for_store, manifest_of, outcomes_of
 
-# The version of the package (VERSION).
-VERSION = "2.0.0"
+if TYPE_CHECKING:
+    from ._policy import Policy
+
+# In which sizes are given.
+UNITS = {"K": 1 << 10, "M": 1 << 20, "G": 1 << 30, "T": 1 << 40}
 
 STATUSES = """\
 statuses:
-  0    all files are accepted; of diff, the layouts are the same
-  1    a file is refused, and none is without a verdict; of diff, the layouts differ
+  0    all files are accepted, or their refusals are known; of diff, the layouts are the same
+  1    a file is refused or not by the policy, and none is without a verdict; of diff, the layouts differ
   2    a file has no verdict, for example because it cannot be read; of diff, a file is not accepted; the words are
        wrong; or nothing could be written
   130  Control-C
+  141  nobody reads the output any more, as after head
 """
-EXAMPLES = """\
-examples:
+# Of each command.
+EXAMPLES = {
+    "check": """\
   kesvuot check program                          one file
   kesvuot check --profile strict dist            all Mach-O files of a folder, by the strict profile
   kesvuot check --profile sealed dist            whether code signatures still match the bytes
   kesvuot check --exclude '*.class' -q build     only those that are not accepted
+  kesvuot check App.ipa dist.tar.xz              the members of archives
   kesvuot check --format sarif dist >kesvuot.sarif
+  kesvuot check --policy release.toml dist       what a release asks of accepted files besides
   curl -s URL | kesvuot check -                  standard input
+""",
+    "explain": """\
   kesvuot explain dist/cut                       why a file is refused
+  kesvuot explain --profile sealed dist/program  the same, by all rules
+  kesvuot explain --json dist/cut                an object with the parts and the numbers
+""",
+    "show": """\
   kesvuot show program                           the layout of an accepted file
+  kesvuot show --all library                     its exports too
+  kesvuot show --json program                    an object with all fields
+""",
+    "diff": """\
   kesvuot diff program program.stripped          what strip has changed
+  kesvuot diff --json old new                    an object with all changes
+""",
+    "map": """\
   kesvuot map program -o map.html                a page that shows where everything is
-"""
+  kesvuot map --profile strict dist/cut -o map.html  the same of a refused file, with what is wrong
+""",
+    "policy": """\
+  kesvuot policy program >release.toml           a policy that a file meets, to start from
+  kesvuot policy --json program                  the same in JSON
+"""}
 
 
 class Text(Report):
-    """A line for each file, and the summary: the counts, and if files break several rules a table of these. What has no
-    verdict is told on standard error."""
+    """A line for each file, or for each key of the policy that it does not meet, and the summary: the counts, and
+    tables of the rules and of the keys if there are several. What has no verdict is told on standard error."""
+
+    is_whole = False
 
     def __init__(self, write: Write, profile: str, is_quiet: bool = False) -> None:
         super().__init__(write, profile)
         self.is_quiet = is_quiet
 
     def add(self, outcome: Outcome) -> None:
-        if outcome.word == REFUSED:
+        if outcome.word == REFUSED and not (outcome.is_known and self.is_quiet):
             reason = reason_text(outcome).partition(":")
             self.write(f"{shown(outcome.path)}: {coloured(reason[0], RED, sys.stdout)}:{reason[2]}\n")
+        elif outcome.word == NOT_BY_POLICY:
+            for line in _policy_reports.lines(outcome):
+                words, colon, rest = line.partition(":")
+                self.write(f"{shown(outcome.path)}: {coloured(words, RED, sys.stdout)}{colon}{rest}\n")
+        elif outcome.word == OTHER_KIND and not self.is_quiet:
+            self.write(f"{shown(outcome.path)}: {outcome.kind}, not judged\n")
         elif outcome.word == ACCEPTED and not self.is_quiet:
             self.write(f"{shown(outcome.path)}: {coloured(ACCEPTED, GREEN, sys.stdout)}\n")
 
     def end(self, summary: Summary) -> None:
         if not self.is_quiet:
             self.write(f"{summary}\n")
-            if len(summary.rules) > 1:
-                rows = [("rule", "refused files"), *((rule, str(count)) for rule, count in summary.rules.most_common())]
-                self.write("\n" + "".join(f"{line}\n" for line in columns(lambda: iter(rows))))
+            self._write_table("rule", "refused files", summary.rules)
+            self._write_table("key", "files", summary.keys)
+
+    def _write_table(self, name: str, files: str, counts: Counter[str]) -> None:
+        if len(counts) > 1:
+            rows = [(name, files), *((each, str(count)) for each, count in counts.most_common())]
+            self.write("\n" + "".join(f"{line}\n" for line in columns(lambda: iter(rows))))
 
 
 # The forms of 1.0.0, without a command
@@ -107,7 +149,7 @@ class Objects(Lines):
     extra = staticmethod(slice_objects)
 
     def add(self, outcome: Outcome) -> None:
-        answer: Dict[str, Any] = {"file": outcome.path, "verdict": outcome.word}
+        answer: Dict[str, Any] = {**file_object(outcome.path), "verdict": outcome.word}
         if outcome.word == ACCEPTED:
             answer.update(slices=outcome.extra)
         elif outcome.word == REFUSED:
@@ -148,43 +190,75 @@ def _files_words(words: List[str]) -> argparse.Namespace:
 
 def check(words: argparse.Namespace) -> int:
     """Judges files and folders."""
+    check_words(words)
+    policy = _read_policy(words)
     form = REPORTS.get(words.format)
     output = Output(form.encoding, form.errors) if form else Output()
     report = form(output.write, words.profile) if form else Text(output.write, words.profile, words.quiet)
     if words.no_unsupported_slices:
         report.rules = RULES_AND_CHOICES
+    report.policy = policy
+    choice = for_store(Choice(
+        words.profile, include=tuple(words.include), exclude=tuple(words.exclude),
+        skips_other_kinds=words.skip_other_kinds, fails_other_kinds=words.fail_other_kinds,
+        refuses_unsupported=words.no_unsupported_slices, maps=words.mmap, opens_found=words.archives,
+        most_unpacked=words.max_unpacked, of_refused=report.of_refused, policy=policy), words)
+    report.has_baseline = choice.known is not None
     try:
-        return _report_all(words, output, report)
+        with manifest_of(words, choice) as keep:
+            return _report_all(words, choice, output, report, keep)
+    except Interrupted:
+        say(INTERRUPTED)
+        end_by(signal.SIGINT)
     finally:
         report.close()
 
 
-def _report_all(words: argparse.Namespace, output: Output, report: Report) -> int:
-    choice = Choice(words.profile, True, tuple(words.include), tuple(words.exclude), words.skip_other_kinds,
-                    words.no_unsupported_slices, words.mmap)
+def _read_policy(words: argparse.Namespace) -> Optional[Policy]:
+    """The policy, if there is one. A malformed one is an error as a wrong option is."""
+    if words.policy is None:
+        return None
+    from ._policy import Malformed, read_policy  # pylint: disable=import-outside-toplevel # only a policy needs them
+    parser: argparse.ArgumentParser = words.parser
+    try:
+        return read_policy(words.policy)
+    except Malformed as error:
+        parser.error(shown(str(error)))
+
+
+def _report_all(words: argparse.Namespace, choice: Choice, output: Output, report: Report,
+                keep: Callable[[Outcome], None]) -> int:
     progress = Progress(_count(words, choice), not words.no_progress)
     if is_terminal(sys.stdout):
         output.clear = progress.clear
-    summary = Summary()
+    summary, interrupts = Summary(report.policy is not None), Interrupts()
+    # What is written beside an old manifest does not stay there.
+    if report.is_whole or words.manifest:
+        interrupts.watch()
+    outcomes = outcomes_of(words, choice)
     report.begin()
-    for outcome in judge_all(words.paths, choice, words.jobs):
+    for outcome in interrupts.until(outcomes):
         summary.add(outcome)
+        keep(outcome)
         if outcome.word == NO_VERDICT and isinstance(report, Text):
             progress.clear()
             say(f"{shown(outcome.path)}: {coloured(outcome.reason, YELLOW, sys.stderr)}")
         report.add(outcome)
         progress.show(summary.files, summary.size)
+    summary.is_interrupted = interrupts.has_come
     progress.clear()
     report.end(summary)
     output.flush()
+    if interrupts.has_come:
+        raise Interrupted
     return summary.status
 
 
 def _count(words: argparse.Namespace, choice: Choice) -> int:
     """How many files there are, if anybody wants to know: a walk of its own."""
-    if words.no_progress or not is_terminal(sys.stderr):
+    if words.no_progress or words.files_from or not is_terminal(sys.stderr):
         return 0
-    return sum(1 for _ in _check.find(words.paths, choice))
+    return _check.count_files(words.paths, choice)
 
 
 def _positive(word: str) -> int:
@@ -193,10 +267,21 @@ def _positive(word: str) -> int:
     return int(word)
 
 
+def _size(word: str) -> int:
+    digits, unit = (word[:-1], word[-1:].upper()) if word[-1:].upper() in UNITS else (word, "")
+    if not (digits.isascii() and digits.isdecimal()):
+        raise argparse.ArgumentTypeError(f"{word!r} is no number of bytes, such as 500M or 16G")
+    return int(digits) * UNITS.get(unit, 1)
+
+
+def _epilog(*examples: str) -> str:
+    return f"examples:\n{''.join(examples)}\n{STATUSES}"
+
+
 def _add_command(commands: Any, name: str, run: Any, summary: str, description: str) -> argparse.ArgumentParser:
     """Adds a command."""
     parser: argparse.ArgumentParser = commands.add_parser(
-        name, help=summary, epilog=f"{EXAMPLES}\n{STATUSES}", description=description,
+        name, help=summary, epilog=_epilog(EXAMPLES[name]), description=description,
         formatter_class=argparse.RawDescriptionHelpFormatter)
     parser.add_argument("--profile", choices=tuple(PROFILES), default=DEFAULT,
                         help=f"judge by the rules of this profile and of those before it (default: {DEFAULT})")
@@ -204,31 +289,49 @@ def _add_command(commands: Any, name: str, run: Any, summary: str, description: 
     return parser
 
 
+def _add_rules_url(parser: argparse.ArgumentParser) -> None:
+    parser.add_argument("--rules-url", default="", metavar="URL", help="the folder of the pages of the rules, to which "
+                        "reports have links (default: the installed pages)")
+
+
 def _add_check(commands: Any) -> None:
     parser = _add_command(commands, "check", check, "judge files and folders", """\
 Judges the layout of Mach-O files, and prints a line for each, and how many there are of each kind. In a folder it
-judges those files that begin with a magic number of Mach-O, and follows no links.""")
-    parser.add_argument("paths", nargs="+", metavar="PATH", help="a file, a folder, or - for standard input")
+judges those files that begin with a magic number of Mach-O, and follows no links. Of an archive (zip, tar, or tar with
+gzip, bzip2 or xz) it judges the members, in memory: nothing is written.""")
+    _add_rules_url(parser)
+    parser.add_argument("paths", nargs="*", metavar="PATH",
+                        help="a file, a folder, an archive, or - for standard input")
     parser.add_argument("--format", choices=("text", *REPORTS), default="text", help="how to print what is found: text "
                         "(the default), json, jsonl, sarif, junit or github")
     parser.add_argument("--include", action="append", default=[], metavar="PATTERN",
-                        help="in folders, judge only files with such a name")
+                        help="in folders and archives, judge only files with such a name")
     parser.add_argument("--exclude", action="append", default=[], metavar="PATTERN",
-                        help="in folders, leave out files and folders with such a name; a pattern with a slash must "
-                        "match the whole path")
-    parser.add_argument("--skip-other-kinds", action="store_true",
-                        help="skip the refused files that say they are of another kind, such as object files")
+                        help="in folders and archives, leave out files and folders with such a name; a pattern with a "
+                        "slash must match the whole path")
+    parser.add_argument("--archives", action="store_true", help="in folders, judge the members of archives too")
+    parser.add_argument("--max-unpacked", type=_size, default=MOST_UNPACKED, metavar="SIZE",
+                        help="the most bytes to unpack of an archive (default: 16G)")
+    kinds = parser.add_mutually_exclusive_group()
+    kinds.add_argument("--fail-other-kinds", action="store_true",
+                       help="refuse files in folders and archives that say they are of another kind, such as object "
+                       "files. Otherwise they are counted apart")
+    kinds.add_argument("--skip-other-kinds", action="store_true",
+                       help="skip such files, also those that are named")
     parser.add_argument("--no-unsupported-slices", action="store_true",
                         help="refuse universal files with a 32-bit or big-endian slice, in which nothing is judged")
+    parser.add_argument("--policy", metavar="FILE",
+                        help="what accepted files have to meet besides, in TOML or JSON: docs/guide/policies.md")
     parser.add_argument("--jobs", type=_positive, default=len(os.sched_getaffinity(0)), metavar="N",
                         help="how many processes judge (one for each processor)")
     parser.add_argument("--mmap", action="store_true", help="map files instead of reading them. ONLY FOR FILES THAT "
                         "NOBODY ELSE CAN WRITE TO: if one changes, its verdict means nothing, or the command is killed")
+    add_words(parser)
     parser.add_argument("-q", "--quiet", action="store_true", help="print only files that are not accepted")
     parser.add_argument("--no-progress", action="store_true", help="show no bar on a terminal")
 
 
-# explain, show, diff and map
+# explain, show, diff, map and policy
 
 
 def _explain(words: argparse.Namespace) -> int:
@@ -236,21 +339,27 @@ def _explain(words: argparse.Namespace) -> int:
 
 
 def _show(words: argparse.Namespace) -> int:
-    return show(words.file, words.profile, words.json)
+    return show(words.file, words.profile, words.json, words.all)
 
 
 def _diff(words: argparse.Namespace) -> int:
-    return diff(words.one, words.other, words.profile)
+    return diff(words.one, words.other, words.profile, words.json)
 
 
 def _map(words: argparse.Namespace) -> int:
     return map_file(words.file, words.profile, words.output)
 
 
+def _policy(words: argparse.Namespace) -> int:
+    from ._policy_writer import write_policy  # pylint: disable=import-outside-toplevel # it needs much besides
+    return write_policy(words.file, words.profile, words.json)
+
+
 def _add_explain(commands: Any) -> None:
     parser = _add_command(commands, "explain", _explain, "say why a file is refused", """\
 Says which parts of a refused file are in conflict, and shows the numbers and the bytes, what usually breaks the
 rule, and what to do. For an accepted file it says what was not judged.""")
+    _add_rules_url(parser)
     parser.add_argument("--json", action="store_true", help="print an object with all of that")
     parser.add_argument("file", metavar="FILE", help="a file, or - for standard input")
 
@@ -258,16 +367,19 @@ rule, and what to do. For an accepted file it says what was not judged.""")
 def _add_show(commands: Any) -> None:
     parser = _add_command(commands, "show", _show, "show the layout of a file", """\
 Shows the layout of an accepted file: its slices, and for each 64-bit image its platform, segments, sections and
-libraries, what its code signature says of itself, and the cdhash of each code directory. For a refused file it prints
-the rule.""")
+libraries, what its code signature says of itself, the cdhash of each code directory, and the entitlements. For a
+refused file it prints the rule.""")
+    _add_rules_url(parser)
+    parser.add_argument("--all", action="store_true", help="print the exports too")
     parser.add_argument("--json", action="store_true", help="print an object with all fields and load commands")
     parser.add_argument("file", metavar="FILE", help="a file, or - for standard input")
 
 
 def _add_diff(commands: Any) -> None:
     parser = _add_command(commands, "diff", _diff, "compare the layouts of two files", """\
-Prints how the layouts of two accepted files differ, slice by slice: lines with - are of the first file, and lines with
-+ of the second one.""")
+Prints how two accepted files differ, slice by slice: their headers and load commands, the contents of sections, the
+exports, the symbols and the code signature. Lines with - are of the first file, and lines with + of the second one.""")
+    parser.add_argument("--json", action="store_true", help="print an object with all changes")
     parser.add_argument("one", metavar="FILE", help="a file, or - for standard input")
     parser.add_argument("other", metavar="FILE")
 
@@ -276,15 +388,26 @@ def _add_map(commands: Any) -> None:
     parser = _add_command(commands, "map", _map, "draw a file and its address space", """\
 Writes a page of HTML that shows the parts of a file to scale, beside the address space. It needs no network. For a
 refused file it shows where the rule is broken, and the parts as far as the headers can be followed.""")
+    _add_rules_url(parser)
     parser.add_argument("-o", "--output", default=STANDARD_OUTPUT, metavar="PAGE",
                         help="the file to write, such as map.html; otherwise standard output")
+    parser.add_argument("file", metavar="FILE", help="a file, or - for standard input")
+
+
+def _add_policy(commands: Any) -> None:
+    parser = _add_command(commands, "policy", _policy, "write a policy that a file meets", """\
+Writes a policy for check --policy that an accepted file meets, to start from: loosen it, and leave out what does not
+matter.""")
+    parser.add_argument("--json", action="store_true",
+                        help="write JSON instead of TOML, which Python 3.11 or later reads")
     parser.add_argument("file", metavar="FILE", help="a file, or - for standard input")
 
 
 # All commands
 
 COMMANDS: Dict[str, Callable[[Any], None]] = {
-    "check": _add_check, "explain": _add_explain, "show": _add_show, "diff": _add_diff, "map": _add_map}
+    "check": _add_check, "explain": _add_explain, "show": _add_show, "diff": _add_diff, "map": _add_map,
+    "policy": _add_policy}
 
 
 class _Version(argparse.Action):
@@ -295,7 +418,7 @@ class _Version(argparse.Action):
         try:
             library = ".".join(map(str, library_version()))
         except ImportError as missing:
-            library = f"none: {missing}"
+            parser.exit(2, f"kesvuot: version {VERSION}, without the library: {missing}\n")
         print(f"kesvuot {VERSION}, library {library}")
         parser.exit()
 
@@ -303,7 +426,7 @@ class _Version(argparse.Action):
 def make_parser() -> argparse.ArgumentParser:
     """The words of the command."""
     parser = argparse.ArgumentParser(
-        prog="kesvuot", epilog=f"{EXAMPLES}\n{STATUSES}", formatter_class=argparse.RawDescriptionHelpFormatter,
+        prog="kesvuot", epilog=_epilog(*EXAMPLES.values()), formatter_class=argparse.RawDescriptionHelpFormatter,
         description="""\
 Judges the layout of Mach-O files by a proved library. `kesvuot COMMAND --help` has the words of a command. Without a
 command, `kesvuot [--strict] [--json | --layout] FILE..` judges files as in version 1.0.0.""")
@@ -336,7 +459,7 @@ def read_words(words: List[str]) -> argparse.Namespace:
         return chosen
     except OSError as error:
         # The help into a full disk.
-        raise WriteFailed from error
+        raise write_failed(error) from error
 
 
 def run(words: List[str]) -> int:
@@ -345,5 +468,6 @@ def run(words: List[str]) -> int:
     open_errors()
     chosen = read_words(words)
     library_version()
+    PAGES.url = getattr(chosen, "rules_url", "")
     status: int = chosen.run(chosen)
     return status

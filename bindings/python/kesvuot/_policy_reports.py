@@ -1,0 +1,85 @@
+"""What reports say of the keys of a policy that a file does not meet. A key is another thing than a rule: the profile
+accepts the file."""
+
+from __future__ import annotations
+
+import tempfile
+from typing import TYPE_CHECKING, Any, Dict, Iterator, List, Optional
+from xml.sax.saxutils import quoteattr
+
+from ._check import ACCEPTED, NOT_BY_POLICY, Outcome
+
+if TYPE_CHECKING:
+    from ._policy import Policy, Unmet
+
+# What a line begins with.
+WORDS = f"{ACCEPTED}, but {NOT_BY_POLICY}"
+# Where the keys are explained, from the folder of the pages.
+PAGE = "guide/policies.md#keys"
+
+
+def lines(outcome: Outcome) -> List[str]:
+    """A line for each key and slice."""
+    return [f"{WORDS}: {unmet}" for unmet in outcome.unmet]
+
+
+def rule_of(key: str) -> str:
+    """What stands in place of the name of a rule."""
+    return f"policy/{key}"
+
+
+def objects(outcome: Outcome) -> List[Dict[str, Any]]:
+    """The same for JSON (docs/check.schema.json)."""
+    return [{"key": it.key, "slice": None if it.index is None else {"index": it.index, "arch": it.arch},
+             "found": it.found, "wanted": it.wanted} for it in outcome.unmet]
+
+
+def sarif_rules(policy: Optional[Policy]) -> Iterator[Dict[str, Any]]:
+    """The keys of a policy, after all rules."""
+    for key in policy.keys if policy else ():
+        yield {"id": rule_of(key.name), "name": "Policy" + key.name.title().replace("-", "").replace(".", ""),
+               "shortDescription": {"text": rule_of(key.name)}, "fullDescription": {"text": key.asks},
+               "help": {"text": f"The policy asks: {key.asks}\nSee {PAGE}."},
+               "defaultConfiguration": {"level": "error"}}
+
+
+def sarif_results(outcome: Outcome, policy: Optional[Policy], first: int, location: Any) -> Iterator[Dict[str, Any]]:
+    """A result for each key and slice. The index of the first key among the rules is `first`."""
+    numbers = {key.name: number for number, key in enumerate(policy.keys if policy else (), first)}
+    for it, line, whole in zip(outcome.unmet, lines(outcome), objects(outcome)):
+        yield {"ruleId": rule_of(it.key), "ruleIndex": numbers[it.key], "level": "error", "message": {"text": line},
+               "locations": [location], "properties": whole}
+
+
+class JunitSuite:
+    """The suite of a policy: a case for each accepted file that meets it, and otherwise a failure for each key and
+    slice."""
+
+    def __init__(self, kept_in_memory: int) -> None:
+        self.cases = tempfile.SpooledTemporaryFile(kept_in_memory, "w+", encoding="utf-8")
+        self.tests = self.failures = 0
+
+    def add(self, outcome: Outcome, name: str, path: str) -> None:
+        """A file, by its name on one line and by the path with which a tool opens it."""
+        if outcome.word == ACCEPTED:
+            self._add(name, path, "")
+        for unmet, line in zip(outcome.unmet, lines(outcome)):
+            self._add(name, path, line, unmet)
+
+    def _add(self, name: str, path: str, line: str, unmet: Optional[Unmet] = None) -> None:
+        end = "/>"
+        if unmet:
+            name += f": {unmet.key}" + ("" if unmet.index is None else f", slice {unmet.index}")
+            end = (f">\n      <failure type={quoteattr(rule_of(unmet.key))} message={quoteattr(line)}/>\n"
+                   "    </testcase>")
+            self.failures += 1
+        self.tests += 1
+        start = f'    <testcase classname="kesvuot.policy" name={quoteattr(name)} file={quoteattr(path)}'
+        self.cases.write(f"{start}{end}\n")
+
+    def head(self, path: str) -> str:
+        counts = f'tests="{self.tests}" failures="{self.failures}" errors="0" skipped="0"'
+        return f"  <testsuite name={quoteattr(f'kesvuot check, policy {path}')} {counts}>\n"
+
+    def close(self) -> None:
+        self.cases.close()
