@@ -218,6 +218,18 @@ module _ (image : List ℕ) (binds : List Bind) where
   none_of_limit end inside none place (what, one, other, here, there, clash, first, second) =
       none (what, (one, other, here, there, clash, (inside one here).place, (inside other there).place))
 
+  -- where they clash neither in names nor in libraries
+  pub none_of_either : AreInside (length image) binds → ¬ ClashBy compared.Names image binds (length image) → ¬ ClashBy compared.Libraries image binds (length image) → IsLeastPlace (ClashAt image binds) None
+  none_of_either inside names libraries = none_of_limit (length image) inside neither
+    where
+      neither : ¬ AnyClashBy image binds (length image)
+      neither (compared.Names, clash) = names clash
+      neither (compared.Libraries, clash) = libraries clash
+
+  -- up to the end each name is compared
+  pub named : AreInside (length image) binds → (i : ℕ) → i < length binds → IsTaken compared.Names (length image) (bind_at binds i)
+  named inside i less = (tt, (inside (bind_at binds i) (i, less, get_or_default binds i _ no_bind less)).place)
+
 -- in another order
 module _ (image : List ℕ) (old new : List Bind) (moved : IsPermutation old new) where
   pub inside_moved : (len : ℕ) → AreInside len old → AreInside len new

@@ -12,6 +12,7 @@ ghost use Rattle.macho_tables.specs.Places.{dyld_info as dyld_info_of};
 ghost use Rattle.macho_alike.specs.Binds.{StepBinds, StreamBinds, BindsOf, IsBind, HasBind, IsSame, BreaksBindOnce, BreaksOpcodeBindOnce};
 ghost use Rattle.macho_alike.specs.BindLists.{WereAdded, AreSpread, IsInside, AreInside, slot_number, ClashBy, AnyClashBy, ClashAt, IsApart, IsTaken};
 ghost use Rattle.macho_alike.specs.declared.binds.Bind.{Bind};
+ghost use Rattle.macho_alike.specs.declared.binds.Compared.TheVariants as compared;
 
 use crate::bind_names::share_names;
 use macho_fields::{Bytes, Span};
@@ -307,8 +308,9 @@ impl Bind {
     }
 }
 
-// The least place of a bind that clashes with one of the same or of a lesser place. Names that have the same bytes are read
-// in one place, so that few are compared.
+// The least place of a bind that clashes with one of the same or of a lesser place. It sorts the binds by their slots. Mostly
+// few bytes of names show that none clash. Otherwise names that have the same bytes are read in one place, so that few are
+// compared.
 pub(crate) fn least_shared(
     alloc: Global,
     image: &Image,
@@ -318,8 +320,53 @@ pub(crate) fn least_shared(
     ensures least { IfOk result (IsLeastPlace (ClashAt image.now binds.old)) }
     ensures memory { OnErr result (0 < length binds.old) }
 {
+    binds.sort_unstable_by_key(|bind| bind.slot_number());
+    if agree(image, binds) {
+        return Ok(None);
+    }
     share_names(alloc, image, binds)?;
     Ok(least_clash(image, binds))
+}
+
+// Whether no two of the binds clash, which are sorted by their slots. It gives up where it would compare more bytes of names
+// than the image has, and then answers no.
+fn agree(image: &Image, binds: &[Bind]) -> bool
+    requires inside { AreInside (length image.now) binds.now }
+    requires sorted { IsNonDecreasingBy (λ bind. slot_number bind) binds.now }
+    ensures { IsTrue result → IsLeastPlace (ClashAt image.now binds.now) None }
+{
+    if !agree_in_names(image, binds) {
+        return false;
+    }
+    !clash(image, binds, Compared::Libraries, image.bytes().len())
+}
+
+// The same for their slots, names and addends.
+fn agree_in_names(image: &Image, binds: &[Bind]) -> bool
+    requires { AreInside (length image.now) binds.now }
+    ensures { IsTrue result → ¬ ClashBy compared.Names image.now binds.now (length image.now) }
+{
+    let mut last = None;
+    let mut left = image.bytes().len();
+    for bind in binds {
+        let bytes = bytes_compared(last, bind);
+        if bytes > left || !is_apart_from(image, last, bind, Compared::Names) {
+            return false;
+        }
+        left -= bytes;
+        last = Some(*bind);
+    }
+    true
+}
+
+// How many bytes of the name of the bind are compared with the name of the one before it.
+fn bytes_compared(before: Option<Bind>, bind: &Bind) -> u64
+    ensures { result ≤ bind.now.name.len }
+{
+    match before {
+        Some(before) if before.is_of_slot(bind) && before.name != bind.name => bind.name.len,
+        _ => 0,
+    }
 }
 
 // The same, where few names have to be compared. It sorts the binds by their slots.

@@ -1,11 +1,38 @@
+use Rattle.std.proofs.Common.{length, rules, None}
+use Rattle.std.proofs.lemmas.List.Sorted.{IsNonDecreasingBy-from_sort_by_key}
 use Rattle.macho_tables.proofs.Places.{least_same}
-use Rattle.macho_alike.specs.BindLists.{ClashAt}
+use Rattle.macho_alike.specs.BindLists.{slot_number, ClashAt}
+use Rattle.macho_alike.proofs.BindPairs.{inside_moved, at_moved}
 use Rattle.macho_alike.proofs.BindRenames.{renamed_inside, renamed_at}
 use Rattle.macho_alike.proofs.binds.least_shared.Goals as goal
 
+pub agree-requires-clause-inside : goal.agree-requires-clause-inside
+agree-requires-clause-inside c =
+    inside_moved c.args.image.now c.args.binds.now c.sort_unstable_by_key.new.self c.sort_unstable_by_key.ensures.permutation (length c.args.image.now) c.requires
+
+pub agree-requires-clause-sorted : goal.agree-requires-clause-sorted
+agree-requires-clause-sorted c = IsNonDecreasingBy-from_sort_by_key (λ bind. slot_number bind) _ c.sort_unstable_by_key.ensures.sorted (λ a r q k. search rules)
+
+pub returns-then-agree-clause-least : goal.returns-then-agree-clause-least
+returns-then-agree-clause-least c =
+    let image = c.args.image.now in
+    let old = c.args.binds.now in
+    let sorted = c.sort_unstable_by_key.new.self in
+    least_same (ClashAt image sorted) (ClashAt image old) None (at_moved image old sorted c.sort_unstable_by_key.ensures.permutation) (c.agree.ensures c.if-agree.true)
+
+pub share_names-requires : goal.share_names-requires
+share_names-requires c =
+    inside_moved c.args.image.now c.args.binds.now c.sort_unstable_by_key.new.self c.sort_unstable_by_key.ensures.permutation (length c.args.image.now) c.requires
+
 pub least_clash-requires : goal.least_clash-requires
-least_clash-requires c = renamed_inside c.args.image.now c.args.binds.now _ c.in_ok-share_names.ensures.renamed c.requires
+least_clash-requires c =
+    renamed_inside c.args.image.now c.sort_unstable_by_key.new.self _ c.in_ok-share_names.ensures.renamed
+    (inside_moved c.args.image.now c.args.binds.now c.sort_unstable_by_key.new.self c.sort_unstable_by_key.ensures.permutation (length c.args.image.now) c.requires)
 
 pub returns-clause-least : goal.returns-clause-least
 returns-clause-least c =
-    least_same _ (ClashAt c.args.image.now c.args.binds.now) c.least_clash.result (renamed_at c.args.image.now c.args.binds.now _ c.in_ok-share_names.ensures.renamed) c.least_clash.ensures
+    let image = c.args.image.now in
+    let old = c.args.binds.now in
+    let sorted = c.sort_unstable_by_key.new.self in
+    least_same (ClashAt image sorted) (ClashAt image old) c.least_clash.result (at_moved image old sorted c.sort_unstable_by_key.ensures.permutation)
+    (least_same _ (ClashAt image sorted) c.least_clash.result (renamed_at image sorted _ c.in_ok-share_names.ensures.renamed) c.least_clash.ensures)
