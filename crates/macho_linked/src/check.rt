@@ -33,6 +33,8 @@ use std::alloc::Global;
 
 // Decides the linked rules of an image that breaks no rule of the layout and no strict rule, in their order. It
 // returns the first broken one, with its place in the image.
+//
+// No group of rules is inlined, so that the call takes the stack of one group at a time.
 pub(crate) fn check_image(alloc: Global, image: &Image) -> Result<(), Refusal>
     requires layout { NothingBreaks (Breaks image.now None) }
     requires strictly { NothingBreaks (BreaksStrictImage image.now) }
@@ -49,6 +51,7 @@ pub(crate) fn check_image(alloc: Global, image: &Image) -> Result<(), Refusal>
 }
 
 // The rules before the rules about what a loader writes.
+#[inline(never)]
 fn check_fixups(image: &Image) -> Result<(), Break>
     requires { NothingBreaks (Breaks image.now None) }
     ensures { Continues (BreaksImage image.now) Rule.ChainBind result }
@@ -81,6 +84,7 @@ fn check_fixups(image: &Image) -> Result<(), Break>
 }
 
 // The rules of exports.
+#[inline(never)]
 fn check_exports(alloc: Global, image: &Image) -> Result<(), Refusal>
     requires layout { NothingBreaks (Breaks image.now None) }
     requires kept { KeptBelow (BreaksImage image.now) (rank Rule.ExportNode) }
@@ -106,6 +110,7 @@ fn judge_exports(image: &Image, exports: ExportSurvey) -> Result<(), Break>
 }
 
 // The rules of functions, of data in code and of initializers.
+#[inline(never)]
 fn check_functions(alloc: Global, image: &Image) -> Result<(), Refusal>
     requires layout { NothingBreaks (Breaks image.now None) }
     requires strictly { NothingBreaks (BreaksStrictImage image.now) }
@@ -121,6 +126,7 @@ fn check_functions(alloc: Global, image: &Image) -> Result<(), Refusal>
 }
 
 // The rules of code signatures.
+#[inline(never)]
 fn check_signature(image: &Image) -> Result<(), Break>
     requires layout { NothingBreaks (Breaks image.now None) }
     requires kept { KeptBelow (BreaksImage image.now) (rank Rule.SignatureBlob) }
@@ -134,6 +140,7 @@ fn check_signature(image: &Image) -> Result<(), Break>
 }
 
 // The rules of symbols and of relocations.
+#[inline(never)]
 fn check_symbols(alloc: Global, image: &Image) -> Result<(), Refusal>
     requires layout { NothingBreaks (Breaks image.now None) }
     requires kept { KeptBelow (BreaksImage image.now) (rank Rule.SymbolLibrary) }
@@ -161,6 +168,7 @@ fn judge_symbols(image: &Image, symbols: SymbolSurvey) -> Result<(), Break>
 }
 
 // The rules of threads, and of what other commands hold.
+#[inline(never)]
 fn check_commands(image: &Image) -> Result<(), Break>
     requires layout { NothingBreaks (Breaks image.now None) }
     requires kept { KeptBelow (BreaksImage image.now) (rank Rule.Thread) }
