@@ -24,6 +24,7 @@ pub mod NamedSymbols
 pub mod NearEntries
 pub mod NotedLibraries
 pub mod SaidNames
+pub mod SaidOrders
 pub mod SegmentPlaces
 pub mod Strings
 pub mod SymbolKinds

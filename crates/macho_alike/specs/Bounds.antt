@@ -1,6 +1,6 @@
 -- Lists of the pointers that fixups bind, and of what is said of indirect entries.
 use Rattle.std.specs.Prelude.{◌≡◌, ℕ, ℤ, pos, ◌+◌, ◌*◌, ◌^◌, ◌<◌, ◌≤◌, ◌↔◌, ◌⊎◌, nat_lt, List, length, map, slice_get, slice_index, Contains, Option, Some, None, IsSomeAnd, if◌then◌else◌}
-use Rattle.macho_fields.specs.Field.{string_from}
+use Rattle.macho_fields.specs.Field.{part, string_from}
 use Rattle.macho_fields.specs.Segment.{all_segments}
 use Rattle.macho_fields.specs.Symbol.{IsSymbolIndex}
 use Rattle.macho_image.specs.declared.indirect.Indirect.{Indirect}
@@ -113,3 +113,14 @@ bind_of image said = record {
 -- two binds of them clash, and the later one is at the place
 abbrev pub SaysOtherwise : List ℕ → List Said → ℕ → Type 0
 SaysOtherwise image said place = ClashAt image (map (bind_of image) said) place
+
+-- both names have the same bytes, or there is neither
+abbrev pub IsOneName : List ℕ → Option ℕ → Option ℕ → Type 0
+IsOneName image one other =
+    (part (span_of image one).start (span_of image one).len image
+    ≡ part (span_of image other).start (span_of image other).len image)
+    × (mark_of one ≡ mark_of other)
+
+-- they are said of two entries, or say one name
+abbrev pub AgreesWith : List ℕ → Said → Said → Type 0
+AgreesWith image one other = one.index ≡ other.index → IsOneName image one.name other.name

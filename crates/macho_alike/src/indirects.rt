@@ -1,6 +1,6 @@
 //! The rule of the names of indirect entries. (`mach-o/loader.h`: `section_64`, `dysymtab_command`)
 
-ghost use Rattle.std.specs.Prelude.{◌≡◌, ◌↔◌, ◌+◌, ◌*◌, ◌^◌, ◌≤◌, ◌<◌, ℕ, length, map, None, Some, IsTrue, IfOk, IfSome, OnErr, Any, Contains};
+ghost use Rattle.std.specs.Prelude.{◌≡◌, ◌↔◌, ◌+◌, ◌*◌, ◌^◌, ◌≤◌, ◌<◌, ℕ, length, map, None, Some, IsTrue, IsSome, IfOk, IfSome, OnErr, Any, Contains};
 ghost use Rattle.std.specs.List.Sorted.{IsNonDecreasingBy};
 ghost use Rattle.macho_fields.specs.Bytes.{bytes_of};
 ghost use Rattle.macho_fields.specs.FirstPlace.{IsLeastPlace};
@@ -10,12 +10,12 @@ ghost use Rattle.macho_fields.specs.Rules.{BreaksImage as Breaks};
 ghost use Rattle.macho_image.specs.Segment.{sections_of};
 ghost use Rattle.macho_chains.specs.ChainPointers.{BreaksChainSlot};
 ghost use Rattle.macho_chains.specs.Chains.{BadStarts, InChains, InPointers};
-ghost use Rattle.macho_alike.specs.Bounds.{WereGathered, location, IsBetween, IsSaidAt, IsSaidFor, IsSaidBy, bind_of, span_of, SaysOtherwise};
+ghost use Rattle.macho_alike.specs.Bounds.{WereGathered, location, IsBetween, IsSaidAt, IsSaidFor, IsSaidBy, bind_of, span_of, SaysOtherwise, IsOneName, AgreesWith};
 ghost use Rattle.macho_alike.specs.Indirects.{HasPointers, IsPointerOf, HasOwnName, IsNameStart, BreaksIndirectName, HasDysymtab};
 ghost use Rattle.macho_alike.specs.declared.bounds.Bound.{Bound};
 ghost use Rattle.macho_alike.specs.declared.indirects.Said.{Said};
 
-use crate::binds::{Bind, least_shared};
+use crate::binds::{Bind, is_same_name, least_shared};
 use crate::bounds::{Bound, bound_pointers};
 use crate::symbols::is_external;
 use macho_chains::chain_imports::name_size;
@@ -262,8 +262,8 @@ fn has_own_name(symbol: Symbol) -> bool
     is_external(symbol.kind) && symbol.kind & N_TYPE != N_INDR && symbol.strx != 0
 }
 
-// The least place of an entry that has two names. They are taken for binds of the slot with the index of the
-// entry.
+// The least place of an entry that has two names. Mostly few bytes of names show that there is none. Otherwise names are
+// taken for binds of the slot with the index of the entry.
 fn least_otherwise(
     alloc: Global,
     image: &Image,
@@ -272,9 +272,63 @@ fn least_otherwise(
     requires { (one : Said) → Contains said.old one → (one.place ≤ length image.now) × (one.index < 2 ^ 32) }
     ensures { IfOk result (IsLeastPlace (SaysOtherwise image.now said.old)) }
 {
+    said.sort_unstable_by_key(|one| one.index);
+    if agree(image, said) {
+        return Ok(None);
+    }
     said.sort_unstable_by_key(|one| one.name);
     let mut binds = binds_of(alloc, image, said)?;
     least_shared(alloc, image, &mut binds)
+}
+
+// Whether all that is said of each entry is one name, where what is said is sorted by the entries. It gives up where names
+// have more bytes than the image, and then answers no.
+fn agree(image: &Image, said: &[Said]) -> bool
+    requires { IsNonDecreasingBy (λ one. one.index) said.now }
+    ensures { IsTrue result → IsLeastPlace (SaysOtherwise image.now said.now) None }
+{
+    let mut last = None;
+    let mut left = image.bytes().len();
+    for one in said {
+        let Some(bytes) = bytes_agreed(image, last, one) else {
+            return false;
+        };
+        if bytes > left {
+            return false;
+        }
+        left -= bytes;
+        last = Some(*one);
+    }
+    true
+}
+
+// How many bytes were compared with the name before it, if that is of another entry or the same name.
+fn bytes_agreed(image: &Image, before: Option<Said>, one: &Said) -> Option<u64>
+    ensures { IsSome result → IfSome before (λ before. AgreesWith image.now before one.now) }
+{
+    match before {
+        Some(before) if before.index == one.index => bytes_shared(image, before.name, one.name),
+        _ => Some(0),
+    }
+}
+
+// How many bytes of the two names were compared, if they are the same.
+fn bytes_shared(image: &Image, one: Option<u64>, other: Option<u64>) -> Option<u64>
+    ensures { IsSome result → IsOneName image.now one other }
+{
+    if one == other {
+        return Some(0);
+    }
+    if one.is_none() || other.is_none() {
+        return None;
+    }
+    let first = span_of(image.bytes(), one);
+    let second = span_of(image.bytes(), other);
+    if is_same_name(image, first, second) {
+        Some(first.len)
+    } else {
+        None
+    }
 }
 
 // What is said, as binds. The bytes of a name are looked for once, where those with the same name follow each other.
