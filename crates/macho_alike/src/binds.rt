@@ -109,8 +109,10 @@ pub enum Compared {
 
 /// The least place of an opcode with a bind that clashes with one of the same or of a lesser place: their slots share
 /// bytes, or they are of one slot, and their names, addends or libraries differ. The image breaks no rule of the layout.
-/// For n binds it takes time in the order of n log n, besides the bytes of their names, and memory for each bind.
-/// Names with the same bytes are looked for once, so that names of one slot are compared by their places.
+///
+/// The names of one slot are compared by their bytes, up to as many bytes as the image has. Past that, names with the
+/// same bytes are looked for once, and then compared by their places. For n binds it takes time in the order of n log n,
+/// and past that of the bytes of their names, times log n. It takes memory for each bind.
 ///
 /// Pointers of chains share no byte, and each says one bind, so they are not looked at.
 pub fn bind_once(alloc: Global, image: &Image) -> Result<Option<u64>, AllocError>
@@ -324,6 +326,8 @@ pub(crate) fn least_shared(
     if agree(image, binds) {
         return Ok(None);
     }
+    // Binds of one name follow each other then, so the name is read once.
+    binds.sort_unstable_by_key(|bind| bind.name.start);
     share_names(alloc, image, binds)?;
     Ok(least_clash(image, binds))
 }

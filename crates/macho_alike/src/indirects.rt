@@ -33,10 +33,11 @@ use std::alloc::{AllocError, Global};
 /// or of a symbol that is not external, has no name, or stands for another one (`N_INDR`). The image breaks no rule of
 /// the layout, and its chains neither `chain-starts` nor `chain-slot`.
 ///
-/// Each bound pointer with an entry says a name of the entry, and the symbol of the entry says one. That is what two
-/// binds of one slot say, so names are compared as there: those with the same bytes are looked for once. For n bound
-/// pointers and b bytes of names, each at one place, it takes time in the order of (n + b) log n. It takes memory if the
-/// image has an `LC_DYSYMTAB`: 24 bytes for each bound pointer, besides its bind, and about 200 for each with an entry.
+/// Each bound pointer with an entry says a name of the entry, and the symbol of the entry says one. They are compared by
+/// their bytes, up to as many bytes as the image has. Past that, they are compared like names of two binds of one slot:
+/// those with the same bytes are looked for once. For n bound pointers and b bytes of names, each at one place, it takes
+/// time in the order of (n + b) log n. It takes memory if the image has an `LC_DYSYMTAB`: 24 bytes for each bound
+/// pointer, besides its bind, and 64 for each with an entry. Names that are looked for take about 200 more for each.
 pub fn indirect_name(alloc: Global, image: &Image) -> Result<Option<u64>, AllocError>
     requires unbroken { NothingBreaks (Breaks image.now None) }
     requires starts { (place : ℕ) → ¬ InChains image.now BadStarts place }

@@ -22,17 +22,28 @@ returns-then-agree-clause-least c =
 
 pub share_names-requires : goal.share_names-requires
 share_names-requires c =
-    inside_moved c.args.image.now c.args.binds.now c.sort_unstable_by_key.new.self c.sort_unstable_by_key.ensures.permutation (length c.args.image.now) c.requires
+    let image = c.args.image.now in
+    let old = c.args.binds.now in
+    let sorted = c.sort_unstable_by_key.new.self in
+    inside_moved image sorted c.sort_unstable_by_key-2.new.self c.sort_unstable_by_key-2.ensures.permutation (length image)
+    (inside_moved image old sorted c.sort_unstable_by_key.ensures.permutation (length image) c.requires)
 
 pub least_clash-requires : goal.least_clash-requires
 least_clash-requires c =
-    renamed_inside c.args.image.now c.sort_unstable_by_key.new.self _ c.in_ok-share_names.ensures.renamed
-    (inside_moved c.args.image.now c.args.binds.now c.sort_unstable_by_key.new.self c.sort_unstable_by_key.ensures.permutation (length c.args.image.now) c.requires)
+    let image = c.args.image.now in
+    let old = c.args.binds.now in
+    let sorted = c.sort_unstable_by_key.new.self in
+    let named = c.sort_unstable_by_key-2.new.self in
+    renamed_inside image named _ c.in_ok-share_names.ensures.renamed
+    (inside_moved image sorted named c.sort_unstable_by_key-2.ensures.permutation (length image)
+    (inside_moved image old sorted c.sort_unstable_by_key.ensures.permutation (length image) c.requires))
 
 pub returns-clause-least : goal.returns-clause-least
 returns-clause-least c =
     let image = c.args.image.now in
     let old = c.args.binds.now in
     let sorted = c.sort_unstable_by_key.new.self in
+    let named = c.sort_unstable_by_key-2.new.self in
     least_same (ClashAt image sorted) (ClashAt image old) c.least_clash.result (at_moved image old sorted c.sort_unstable_by_key.ensures.permutation)
-    (least_same _ (ClashAt image sorted) c.least_clash.result (renamed_at image sorted _ c.in_ok-share_names.ensures.renamed) c.least_clash.ensures)
+    (least_same (ClashAt image named) (ClashAt image sorted) c.least_clash.result (at_moved image sorted named c.sort_unstable_by_key-2.ensures.permutation)
+    (least_same _ (ClashAt image named) c.least_clash.result (renamed_at image named _ c.in_ok-share_names.ensures.renamed) c.least_clash.ensures))
