@@ -416,8 +416,9 @@ uint32_t kesvuot_arch_named(const void *name, size_t name_size, uint32_t *cputyp
  * All other offsets, such as `fileoff`, are fields of the format and count from the start of the slice: in the file the
  * byte is at image.slice.offset + fileoff. Reserved fields are 0.
  *
- * A name contains no zero byte, and can be empty. A zero byte follows a nonempty name of a command, library, symbol or
- * export, but not always the name of a segment or section, which can fill all its 16 bytes: use `size`.
+ * A name contains no zero byte, and can be empty. A zero byte follows a nonempty name of a command, library, symbol,
+ * export or import, but not always the name of a segment or section, which can fill all its 16 bytes: use `size`. For
+ * imports this is so from a cursor of zeros on.
  *
  * The comments of the fields say what holds of them in an accepted file. A field with "any number" is not judged: test
  * it before you use it as an index, an offset or a shift. */
@@ -765,9 +766,9 @@ uint32_t kesvuot_find_name(const void *file, size_t size, const struct kesvuot_i
 
 /* Fixups
  *
- * The pointers that a dynamic loader writes before it runs an image, by LC_DYLD_CHAINED_FIXUPS if the image has that
- * command, otherwise by LC_DYLD_INFO or LC_DYLD_INFO_ONLY. The rows are the same: a caller need not know which of the
- * commands the image has.
+ * The pointers that a dynamic loader writes in an image, by LC_DYLD_CHAINED_FIXUPS if the image has that command,
+ * otherwise by LC_DYLD_INFO or LC_DYLD_INFO_ONLY. It can write a lazy bind as late as the first call through it. The
+ * rows are the same: a caller need not know which of the commands the image has.
  *
  * A bind has the index of its import and no name: many pointers can bind one import, and to find the end of its name
  * again for each of them would take more than linear time. Read the imports once, and keep the rows.
@@ -802,7 +803,9 @@ struct kesvuot_import {       /* what pointers are bound to. Only the linked pro
                                  weak definitions count as one, as for all imports of weak binds. In a file that linked
                                  refuses any number: 2^63 and more is given as 2^63 - 1 */
     int64_t addend;           /* added to the address that is found. Any number */
-    uint32_t weak;            /* 1: the pointer is 0 if the name is not found. 0: then the image is not loaded */
+    uint32_t weak;            /* if the name is not found, 1: the pointer is 0 plus the addend. 0: the image is not
+                                 loaded; but a weak bind leaves the pointer as it is, and a lazy bind ends the program
+                                 at the first call */
     uint32_t reserved;
 };
 
@@ -814,11 +817,14 @@ enum {
 
 struct kesvuot_fixup {         /* a pointer of 8 bytes. Only the linked profile judges it */
     uint64_t address;          /* of the pointer, before any slide: vmaddr + offset of its segment, modulo 2^64 */
-    uint64_t offset;           /* in its segment, and in `bytes` of the segment: all 8 bytes are there, in any file */
+    uint64_t offset;           /* in its segment, and in `bytes` of the segment. From a cursor of zeros on all 8 bytes
+                                  are there, in any file */
     uint64_t target;           /* REBASE: the address to which it points, before any slide. Any number. Otherwise 0 */
-    uint64_t import;           /* BIND: the index of the row that kesvuot_read_imports writes. Otherwise 0 */
-    int64_t addend;            /* BIND: what is added in all to the address that is found: the addend of the import, and
-                                  what the pointer adds itself. Any number. Otherwise 0 */
+    uint64_t import;           /* BIND: the index of the row that kesvuot_read_imports writes. In a file that linked
+                                  refused it can be past the last row: test it. Otherwise 0 */
+    int64_t addend;            /* BIND: what is added in all to the address that is found: the sum, modulo 2^64 and
+                                  signed, of the addend of the import and of what the pointer adds itself. Any number.
+                                  Otherwise 0 */
     uint32_t segment;          /* the index of its segment, in the order of kesvuot_read_segments */
     uint32_t kind;             /* KESVUOT_REBASE or KESVUOT_BIND */
     uint16_t diversity;        /* authenticated: a number with which the pointer is signed. Any number. Otherwise 0 */
@@ -828,16 +834,24 @@ struct kesvuot_fixup {         /* a pointer of 8 bytes. Only the linked profile 
 };
 
 /* The pointers that a loader writes, each write once and in the order of a loader, in batches as of the tables of an
- * image. In a file that the linked profile accepts no write is left out.
+ * image. In a file that the linked profile accepts, no write that these commands ask for is left out. Relocations of
+ * LC_DYSYMTAB are not among the rows.
  *
- * By opcodes: the pointers of the rebase stream, then of the bind, the weak bind and the lazy bind stream. A rebase has
- * the number in its 8 bytes of the file as its target. A stream ends before the first opcode that linked refuses by
- * rebase-opcode or bind-opcode, and the next stream follows. The pointers of an opcode end before the first that is not
- * in the bytes of its segment, and the next opcode follows.
+ * By opcodes: the pointers of the rebase stream, then of the bind, the weak bind and the lazy bind stream. dyld 4 binds
+ * the weak ones last, which matters for a weak and a lazy bind of one pointer: bind-once of the unambiguous profile
+ * refuses binds of one pointer that differ. A rebase has the number in its 8 bytes of the file as its target. DONE in
+ * the lazy stream resets the library, the addend and the flags too, as in dyld 2; dyld 4 and LLVM keep them.
  *
- * By chains: segment by segment, page by page, along each chain. In a file that linked refuses all rows end before the
- * first segment whose starts break chain-starts. They also end before the first pointer that is not in its page and the
- * bytes of its segment, whose next one begins in its own bytes, or whose import is not in the table.
+ * A stream ends before the first opcode that linked refuses by rebase-opcode or bind-opcode, and the next stream
+ * follows. The pointers of an opcode end before the first that is not in the bytes of its segment, and the next opcode
+ * follows.
+ *
+ * By chains: segment by segment, page by page, along each chain. In a file that linked refuses there are no rows if
+ * chain-header is broken. Otherwise all rows end before the first segment whose entry is not in the table, or whose
+ * starts break chain-starts, where a missing base counts as 0. Neither a segment that is not writable nor a seg_count
+ * that is too large ends them. They also end before the first pointer that is not whole in its page, or not whole in
+ * the bytes of its segment, or whose next one begins in its own bytes, or whose import is not in the table. No import
+ * is in the table if the array of imports ends past it.
  *
  * Each call reads the load commands, and then takes time in proportion to the rows that it writes and what it passes to
  * find them. It takes no memory. */
@@ -845,11 +859,12 @@ size_t kesvuot_read_fixups(const void *file, size_t size, const struct kesvuot_i
                            struct kesvuot_fixup_cursor *cursor, struct kesvuot_fixup *rows, size_t max);
 
 /* The imports, to which pointers are bound, in batches as of the tables of an image. By opcodes: a row for each opcode
- * that binds a pointer, of the bind, the weak bind and the lazy bind stream in turn. Two rows can have one name.
+ * that binds a pointer, of the bind, the weak bind and the lazy bind stream in turn. Two rows can have one name. A
+ * stream ends where kesvuot_read_fixups says.
  *
- * By chains: the imports of the table. A stream ends where kesvuot_read_fixups says. In a file that linked refuses the
- * imports of a table end before the first whose name does not end in the table, or with which the names have more bytes
- * than the table. */
+ * By chains: the imports of the table. In a file that linked refuses there are no imports if chain-header is broken, or
+ * if the array of imports ends past the table. Otherwise they end before the first whose name does not end in the
+ * table, or with which the names have more bytes than the table. */
 size_t kesvuot_read_imports(const void *file, size_t size, const struct kesvuot_image *image,
                             struct kesvuot_fixup_cursor *cursor, struct kesvuot_import *rows, size_t max);
 
