@@ -13,7 +13,8 @@ type Fixup struct {
 	// Target is that address of the image, before any slide. A bind has 0.
 	Target uint64
 	// Import is the index in Imports of what is bound, and Addend is all that is added to the address that is found,
-	// with the addend of the import. Both are 0 if there is no bind.
+	// with the addend of the import. Both are 0 if there is no bind. In a file that the linked profile refuses, Import
+	// can be past the last of Imports: test it.
 	Import uint64
 	Addend int64
 	// Authentication says how the pointer is signed. It is nil if it is not.
@@ -44,7 +45,8 @@ type Import struct {
 }
 
 // Fixups iterates over the pointers that a dynamic loader writes, in the order in which it writes them. The tables are
-// slices, but opcodes can ask for far more pointers than the file has bytes.
+// slices, but opcodes can ask for far more pointers than the file has bytes. These are the names that are bound, in a
+// file that the linked profile accepts:
 //
 //	imports := image.Imports()
 //	for fixups := image.Fixups(); fixups.Next(); {
@@ -61,9 +63,10 @@ type Fixups struct {
 }
 
 // Fixups iterates over the pointers that a dynamic loader writes: by LC_DYLD_CHAINED_FIXUPS if the image has that
-// command, otherwise by the opcodes of LC_DYLD_INFO or LC_DYLD_INFO_ONLY. In a file that the linked profile accepts none
-// is left out, and there are fewer than the file has bytes. In any other kesvuot.h says at kesvuot_read_fixups where they
-// end, and there can be 2^64 of them.
+// command, otherwise by the opcodes of LC_DYLD_INFO or LC_DYLD_INFO_ONLY. In a file that the linked profile accepts, no
+// pointer that these commands ask for is left out, each bind has its import, and there are fewer pointers than the file
+// has bytes. In any other, kesvuot.h says at kesvuot_read_fixups where they end. There can be 2^64 of them, and the
+// index of an import can be past the last.
 func (image *Image) Fixups() *Fixups { return &Fixups{image: image} }
 
 // Next goes on to the next pointer. It returns false if there is none.

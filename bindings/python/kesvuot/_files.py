@@ -398,10 +398,12 @@ class Image(Slice):
     def fixups(self) -> Walk[Fixup]:
         """The pointers that a dynamic loader writes, in the order in which it writes them: by LC_DYLD_CHAINED_FIXUPS if
         the image has that command, otherwise by the opcodes of LC_DYLD_INFO or LC_DYLD_INFO_ONLY. In a file that the
-        linked profile accepts these are all, and there are fewer than the file has bytes. In any other kesvuot.h says
-        at kesvuot_read_fixups where they end, and there can be 2^64 of them. Each loop reads them again, as far as it
-        goes. A bind has the index of its import:
+        linked profile accepts, no pointer that these commands ask for is left out, each bind has its import, and there
+        are fewer pointers than the file has bytes. In any other, kesvuot.h says at kesvuot_read_fixups where they end.
+        There can be 2^64 of them, and the index of an import can be past the last. Each loop reads them again, as far
+        as it goes. A bind has the index of its import:
 
+            image = kesvuot.verify_file(path, "linked").images[0]
             imports = list(image.imports)
             names = [imports[it.import_index].name for it in image.fixups if it.import_index is not None]"""
         return Walk(partial(_fixups.fixups, self._data, self._image))

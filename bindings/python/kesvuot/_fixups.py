@@ -37,7 +37,8 @@ class Fixup(NamedTuple):
     `segment`, `offset`: the index of its segment in `Image.segments`, and how far it is from the start of the segment,
     and of its bytes
     `target`: of a rebase the address to which it points, before any slide. None of a bind
-    `import_index`: of a bind the index of its import in `Image.imports`. None of a rebase
+    `import_index`: of a bind the index of its import in `Image.imports`. None of a rebase. In a file that the linked
+    profile refuses it can be past the last import
     `addend`: of a bind what is added in all to the address that is found, that of its import included
     `authentication`: how it is signed, or None"""
 

@@ -27,7 +27,8 @@ pub enum FixupTarget {
     Rebase(u64),
     /// The address of what an import names.
     Bind {
-        /// The index of the import, in the order of [`Image::imports`].
+        /// The index of the import, in the order of [`Image::imports`]. In a file that
+        /// [`Profile::Linked`](crate::Profile::Linked) refuses it can be past the last import: test it.
         import: u64,
         /// What is added in all to the address that is found, with the addend of the import.
         addend: i64,

@@ -525,13 +525,15 @@ impl<'a> Image<'a> {
 
     /// The pointers that a dynamic loader writes, in the order in which it writes them: by `LC_DYLD_CHAINED_FIXUPS` if
     /// the image has that command, otherwise by the opcodes of `LC_DYLD_INFO` or `LC_DYLD_INFO_ONLY`. In a file that
-    /// [`Profile::Linked`](crate::Profile::Linked) accepts none is left out, and there are fewer than the file has
-    /// bytes. In any other `kesvuot.h` says at `kesvuot_read_fixups` where they end, and there can be 2^64 of them.
+    /// [`Profile::Linked`](crate::Profile::Linked) accepts, no pointer that these commands ask for is left out, each
+    /// bind has its import, and there are fewer pointers than the file has bytes. In any other, `kesvuot.h` says at
+    /// `kesvuot_read_fixups` where they end. There can be 2^64 of them, and the index of an import can be past the
+    /// last.
     ///
     /// ```
     /// # let path = concat!(env!("CARGO_MANIFEST_DIR"), "/../../tests/real/program");
     /// # let file = std::fs::read(path)?;
-    /// # let image = kesvuot::verify(&file, kesvuot::Profile::Layout)?.image(0).unwrap();
+    /// let image = kesvuot::verify(&file, kesvuot::Profile::Linked)?.image(0).unwrap();
     /// let imports: Vec<_> = image.imports().collect();
     /// for fixup in image.fixups() {
     ///     if let kesvuot::FixupTarget::Bind { import, .. } = fixup.target {
