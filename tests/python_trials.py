@@ -1276,6 +1276,8 @@ def judge_bad_chains(report):
             ("both names", 3, b"_a\0_b\0", [b"_a", b"_b"])):
         image = chained(2, {0: 0x20}, [0], 1, [struct.pack("<I", 1), struct.pack("<I", 1 | number << 9)], names)
         report.case(f"imports that end: {name}", [it.name.tobytes() for it in image.imports], wanted)
+    image = chained(2, {0: 1 << 63 | 1}, [0], 1, imports, b"_a\0_b")
+    report.case("a bind of an import past the last row", binds_of(image), ([(0, 1, 0)], [(b"_a", 1, 0, False)]))
     many = [struct.pack("<I", 1)] * 20
     image = chained(2, {0: 0x20}, [0], 1, many, b"_" * 100 + b"\0")
     table = image.linkedit(LC_DYLD_CHAINED_FIXUPS)
