@@ -1181,9 +1181,10 @@ def judge_fixups(report):
     report.case("an image without opcodes", binds_of(with_streams()), ([], []))
 
 
-def chained(form, pointers, starts, imports_format=1, imports=(), names=b"\0"):
-    """The first image of a file with chains of this format: in pages of 4096 bytes of its segment 1, at images.BASE +
-    0x1000, which has these pointers at their offsets."""
+def chained_file(form, pointers, starts, imports_format=1, imports=(), names=b"\0", streams=(), streams_at=0):
+    """A file with chains of this format: in pages of 4096 bytes of its segment 1, at images.BASE + 0x1000, which has
+    these pointers at their offsets. With streams of opcodes, their command is before that of the chains (0) or after it
+    (1)."""
     size = max(pointers) + images.POINTER_SIZE
     data = bytearray(size)
     for offset, pointer in pointers.items():
@@ -1196,15 +1197,25 @@ def chained(form, pointers, starts, imports_format=1, imports=(), names=b"\0"):
     table = struct.pack("<7I", 0, images.FIXUPS_HEADER_SIZE, imports_offset, imports_offset + len(listed), len(imports),
                         imports_format, 0) + array + segment_starts + listed + names
     begin = (images.HEADER_SIZE + 3 * images.SEGMENT_SIZE + images.LIBRARY_SIZE + images.LINKEDIT_DATA_SIZE
-             + images.MAIN_SIZE)
+             + images.MAIN_SIZE + (images.DYLD_INFO_SIZE if streams else 0))
+    end = begin + size + len(table)
+    linkedit_size = len(table) + sum(map(len, streams))
+    fixups = [images.linkedit_data(LC_DYLD_CHAINED_FIXUPS, begin + size, len(table))]
+    if streams:
+        fixups.insert(streams_at, images.dyld_info(end, list(map(len, streams))))
     commands = images.segment(b"__TEXT", images.BASE, images.PAGE, 0, begin)
     commands += images.segment(b"__DATA", images.BASE + images.PAGE, -(-size // images.PAGE) * images.PAGE, begin, size,
                                initprot=3)
-    commands += images.segment(b"__LINKEDIT", images.FAR, images.PAGE, begin + size, len(table), initprot=1)
-    commands += images.library(0) + images.linkedit_data(LC_DYLD_CHAINED_FIXUPS, begin + size, len(table))
+    commands += images.segment(b"__LINKEDIT", images.FAR, images.PAGE, begin + size, linkedit_size, initprot=1)
+    commands += images.library(0) + b"".join(fixups)
     out = io.BytesIO()
-    images.image(out, commands, 5, [bytes(data), table], accepted=True)
-    return kesvuot.verify(out.getvalue()).images[0]
+    images.image(out, commands, 4 + len(fixups), [bytes(data), table, *streams], accepted=True)
+    return out.getvalue()
+
+
+def chained(*words, **given):
+    """The first image of such a file."""
+    return kesvuot.verify(chained_file(*words, **given)).images[0]
 
 
 def chained_rows(image):
@@ -1217,7 +1228,7 @@ def chained_rows(image):
 
 
 def judge_chains(report):
-    """Pointers and imports of each format, by hand. (mach-o/fixup-chains.h)"""
+    """Pointers and imports of each format, and of an image that has opcodes too, by hand. (mach-o/fixup-chains.h)"""
     base = images.BASE
     imports = [struct.pack("<I", bits) for bits in (1 | 1 << 9, 0xFE | 1 << 8 | 4 << 9, 0xFD | 7 << 9)]
     names = b"\0_a\0_b\0_c\0"
@@ -1233,6 +1244,14 @@ def judge_chains(report):
     report.case("targets from the base, by hand", chained_rows(image), [
         (0, base + 0x1234 + (2 << 56), None, 0, None)])
     report.case("no imports", list(image.imports), [])
+    # The opcodes rebase the pointer at 24, and bind the pointer at 32 to _x.
+    streams = [bytes.fromhex(words) for words in ("11 2118 51 00", "11 405f7800 7120 90 00", "", "")]
+    pointers = {8: 0x1_0000_0010 | 2 << 51, 16: 1 << 63, 32: 0}
+    for streams_at, where in enumerate(("before", "after")):
+        image = chained(2, pointers, [8], 1, imports, names, streams, streams_at)
+        report.case(f"chains, and opcodes by a command {where} theirs, by hand",
+                    (chained_rows(image), binds_of(image)[1]),
+                    ([(8, 0x1_0000_0010, None, 0, None), (16, None, 0, 0, None)], rows))
     # The upper bits: is authenticated, is a bind, `next`, which counts 8 bytes, and the key or a part of the addend.
     pointers = {0: 0x2_0000_0010 | 0x80 << 43 | 1 << 51, 8: 1 << 62 | 1 | 0x7_FFFE << 32 | 1 << 51,
                 16: 1 << 63 | 0x1010 | 0xBEEF << 32 | 1 << 48 | 2 << 49 | 2 << 51,
