@@ -37,7 +37,7 @@ complete -c kesvuot -n '__fish_seen_subcommand_from check' -s q -l quiet -d 'Pri
 complete -c kesvuot -n '__fish_seen_subcommand_from check' -l no-progress -d 'Show no bar'
 
 complete -c kesvuot -n '__fish_seen_subcommand_from explain' -l json -d 'Print an object'
-complete -c kesvuot -n '__fish_seen_subcommand_from show' -l all -d 'Print the exports too'
+complete -c kesvuot -n '__fish_seen_subcommand_from show' -l all -d 'Print the exports, imports and fixups too'
 complete -c kesvuot -n '__fish_seen_subcommand_from show' -l json -d 'Print an object with all fields'
 complete -c kesvuot -n '__fish_seen_subcommand_from diff' -l json -d 'Print an object with all changes'
 

@@ -8,7 +8,7 @@ from typing import Any, Dict, Iterator, List, NamedTuple, Optional, Tuple
 
 from ._case import cut
 from ._library import Bytes
-from ._names import LIBRARIES, plain
+from ._names import ELSEWHERE, LIBRARIES, plain
 from ._opcodes import (
     BIND, BIND_SPECIAL_DYLIB_WEAK_LOOKUP, LAZY_BIND, POINTER_SIZE, SPAN, WEAK_BIND, Binds, LazyBinds, OpcodeError)
 from ._parts import walk_commands
@@ -23,9 +23,7 @@ from .constants import (
 STREAMS = (BIND, LAZY_BIND, WEAK_BIND)
 POINTER_TYPES = (
     S_NON_LAZY_SYMBOL_POINTERS, S_LAZY_SYMBOL_POINTERS, S_LAZY_DYLIB_SYMBOL_POINTERS, S_THREAD_LOCAL_VARIABLE_POINTERS)
-# Where names are looked up by an ordinal of no library, and the ordinals of symbols that say the same.
-ELSEWHERE = {0: "the image itself", -1: "the main executable", -2: "any image",
-             BIND_SPECIAL_DYLIB_WEAK_LOOKUP: "any image with a weak definition"}
+# The ordinals of symbols that say the same as those of ELSEWHERE.
 OF_SYMBOLS = {EXECUTABLE_ORDINAL: -1, DYNAMIC_LOOKUP_ORDINAL: -2}
 
 

@@ -2,20 +2,23 @@
 
 from __future__ import annotations
 
-from typing import Any, Dict, Iterator, List, NamedTuple, Optional, Tuple
+from functools import partial
+from itertools import islice
+from typing import Any, Callable, Dict, Iterator, List, NamedTuple, Optional, Tuple
 
 from ._entitlements import Unreadable, entitlement_values
 from ._files import File, Image, Slice
-from ._names import hash_type_name, plain, signature_flags
+from ._names import ELSEWHERE, KEYS, hash_type_name, plain, signature_flags
 from ._rows import CodeDirectory, Library
 from .constants import (
     CS_CDHASH_LEN, CSSLOT_ALTERNATE_CODEDIRECTORIES, CSSLOT_CODEDIRECTORY, EXPORT_SYMBOL_FLAGS_KIND_ABSOLUTE,
-    EXPORT_SYMBOL_FLAGS_KIND_MASK, EXPORT_SYMBOL_FLAGS_KIND_THREAD_LOCAL, EXPORT_SYMBOL_FLAGS_WEAK_DEFINITION)
+    EXPORT_SYMBOL_FLAGS_KIND_MASK, EXPORT_SYMBOL_FLAGS_KIND_THREAD_LOCAL, EXPORT_SYMBOL_FLAGS_WEAK_DEFINITION,
+    LC_DYLD_CHAINED_FIXUPS)
 
 # The slots of code directories.
 DIRECTORY_SLOTS = {
     CSSLOT_CODEDIRECTORY, *range(CSSLOT_ALTERNATE_CODEDIRECTORIES, CSSLOT_ALTERNATE_CODEDIRECTORIES + 5)}
-# The names of exports have together no more bytes than this. In a hostile file they can be far longer than the trie.
+# The names of a table have together no more bytes than this. In a hostile file they can be far longer than the file.
 MOST_NAMES = 1 << 26
 
 
@@ -127,8 +130,109 @@ def exports_of(image: Image) -> Iterator[NamedExport]:
         yield NamedExport(plain(memoryview(name)), export.address, f"{what}, weak" if is_weak else what)
 
 
+class NamedImport(NamedTuple):
+    """An import: its name, the ordinal of its library, this library in words, what is added to the address, and whether
+    the name need not be found."""
+
+    name: str
+    ordinal: int
+    library: str
+    addend: int
+    weak: bool
+
+
+def imports_of(image: Image) -> Iterator[NamedImport]:
+    """The imports, up to that with which the names have too many bytes."""
+    libraries = [plain(library.name) for library in image.libraries]
+    size = 0
+    for name, ordinal, addend, weak in image.imports:
+        size += len(name)
+        if size > MOST_NAMES:
+            return
+        library = libraries[ordinal - 1] if 0 < ordinal <= len(libraries) else ELSEWHERE.get(ordinal)
+        yield NamedImport(plain(name), ordinal, library or f"library {ordinal}", addend, weak)
+
+
+class NamedFixup(NamedTuple):
+    """A pointer that a loader writes: the index of its segment, where it is there, and its address. A rebase has a
+    target, and a bind what it is bound to, as in NamedImport, with all that is added. A signed pointer has a key."""
+
+    segment: int
+    offset: int
+    address: int
+    target: Optional[int]
+    name: Optional[str]
+    ordinal: Optional[int]
+    library: Optional[str]
+    addend: Optional[int]
+    weak: Optional[bool]
+    key: Optional[str]
+    diversity: Optional[int]
+    address_diversity: Optional[bool]
+
+
+UNBOUND = (None,) * len(NamedImport._fields)
+UNSIGNED = (None, None, None)
+
+
+def fixups_of(image: Image) -> Iterator[NamedFixup]:
+    """The pointers that a loader writes, up to that with which the names have too many bytes. They are no more than the
+    bytes of the image: in a file that the linked profile refuses there can be 2^64."""
+    import_at = _imports_by_index(image)
+    size = 0
+    for fixup in islice(image.fixups, len(image.bytes)):
+        bound: Tuple[Any, ...] = UNBOUND
+        if fixup.import_index is not None:
+            found = import_at(fixup.import_index)
+            size += len(found.name) if found else 0
+            if found is None or size > MOST_NAMES:
+                return
+            bound = found._replace(addend=fixup.addend)
+        signed = fixup.authentication
+        signing: Tuple[Any, ...] = (KEYS[signed.key], *signed[1:]) if signed else UNSIGNED
+        yield NamedFixup(fixup.segment, fixup.offset, fixup.address, fixup.target, *bound, *signing)
+
+
+def _imports_by_index(image: Image) -> Callable[[int], Optional[NamedImport]]:
+    """Finds an import by its index. Opcodes bind their imports in order, so only the last one is kept. Chains bind them
+    in any order, so all of the table are."""
+    walk = imports_of(image)
+    if any(command.cmd == LC_DYLD_CHAINED_FIXUPS for command in image.commands):
+        kept = list(walk)
+        return lambda index: kept[index] if index < len(kept) else None
+    known, last = -1, None
+
+    def find(index: int) -> Optional[NamedImport]:
+        nonlocal known, last
+        if known < index:
+            known, last = index, next(islice(walk, index - known - 1, None), None)
+        return last
+
+    return find
+
+
+class Streamed(List[Dict[str, Any]]):
+    """Rows as objects, for an encoder of JSON that asks for one after the other. None is kept."""
+
+    def __init__(self, rows: Callable[[], Iterator[Any]]) -> None:
+        super().__init__()
+        self._rows = rows
+
+    def __bool__(self) -> bool:
+        return any(True for _ in self._rows())
+
+    def __iter__(self) -> Iterator[Dict[str, Any]]:
+        return (row._asdict() for row in self._rows())
+
+
+# The tables of an image that can be longer than all else, by their names in JSON.
+LONG_TABLES: Dict[str, Callable[[Image], Iterator[Any]]] = {
+    "exports": exports_of, "imports": imports_of, "fixups": fixups_of}
+
+
 def layout_objects(file: File, has_all: bool = False) -> List[Dict[str, Any]]:
-    """An object for each slice, without the symbols and the indirect entries, and with the exports if all is wanted."""
+    """An object for each slice, without the symbols and the indirect entries, and with the exports, imports and fixups
+    if all is wanted."""
     return [{"index": part.index, "cputype": part.cputype, "cpusubtype": part.cpusubtype, **_slice_object(part),
              **(_tables(part, has_all) if isinstance(part, Image) else {})} for part in file.slices]
 
@@ -147,8 +251,8 @@ def _entitlements(image: Image) -> Optional[Dict[str, Any]]:
 
 def _tables(image: Image, has_all: bool) -> Dict[str, Any]:
     signatures = list(map(_signature_object, signatures_of(image)))
-    exports = {"exports": [export._asdict() for export in exports_of(image)]} if has_all else {}
-    return {**exports, "thread_entry": image.thread_entry, "signature": signatures[0] if signatures else None,
+    long = {name: Streamed(partial(rows, image)) for name, rows in LONG_TABLES.items()} if has_all else {}
+    return {**long, "thread_entry": image.thread_entry, "signature": signatures[0] if signatures else None,
             "other_signatures": signatures[1:], "entitlements": _entitlements(image),
             "cdhashes": [cdhash._asdict() for cdhash in cdhashes_of(image)],
             "symtab": image.symtab and image.symtab._asdict(),

@@ -32,6 +32,13 @@ LIBRARIES = {
     LC_REEXPORT_DYLIB: "re-exported", LC_LAZY_LOAD_DYLIB: "loaded when it is needed",
     LC_LOAD_UPWARD_DYLIB: "loaded, upward"}
 
+# Where names are looked up by an ordinal of no library.
+ELSEWHERE = {0: "the image itself", -1: "the main executable", -2: "any image",
+             -3: "any image with a weak definition"}
+
+# The keys with which pointers of arm64e are signed.
+KEYS = ("IA", "IB", "DA", "DB")
+
 # The load commands.
 COMMANDS = {number: name for name, number in vars(constants).items() if name.startswith("LC_")}
 

@@ -4,13 +4,15 @@ from __future__ import annotations
 
 import json
 from functools import partial
-from typing import Any, Callable, Dict, Iterator, List, Tuple
+from itertools import islice
+from typing import Any, Callable, Dict, Iterator, List, Optional, Tuple
 
 from ._check import ACCEPTED, NO_VERDICT, Choice, Outcome, Target, judge
 from ._entitlements import Unreadable, entitlement_values
 from ._files import File, Image, Slice
 from ._layout import (
-    Signature, cdhashes_of, disagreements, exports_of, layout_objects, libraries_of, signatures_of)
+    Signature, cdhashes_of, disagreements, exports_of, fixups_of, imports_of, layout_objects, libraries_of,
+    signatures_of)
 from ._names import (
     FILETYPES, LIBRARIES, count_text, plain, platform_name, protection_text, signature_flags, size_text, version_text)
 from ._output import Output, say
@@ -22,6 +24,9 @@ LAYOUT_VERSION = 1
 
 Cells = Tuple[str, ...]
 
+# How many pieces of JSON are written at once.
+PIECES = 4096
+
 
 def show(path: str, profile: str, as_json: bool, has_all: bool = False) -> int:
     """Prints the layout of a file, or why it has none, and returns the status."""
@@ -29,7 +34,10 @@ def show(path: str, profile: str, as_json: bool, has_all: bool = False) -> int:
     extra = partial(layout_objects if as_json else _lines, has_all=has_all)
     outcome = judge(Target(path), Choice(profile, walks=False, extra=extra))
     if as_json:
-        output.write(json.dumps(_object(outcome, profile), indent=1) + "\n")
+        pieces = json.JSONEncoder(indent=1).iterencode(_object(outcome, profile))
+        for text in iter(lambda: "".join(islice(pieces, PIECES)), ""):
+            output.write(text)
+        output.write("\n")
     elif outcome.word == ACCEPTED:
         output.write(f"{shown(path)}: accepted, {size_text(outcome.size)}, {count_text(outcome.slices, 'slice')}\n")
         for line in outcome.extra:
@@ -66,9 +74,9 @@ def _slice_lines(part: Slice, has_all: bool) -> Iterator[str]:
         if libraries_of(part):
             yield ""
             yield from columns(partial(_libraries, part))
-        if has_all:
+        for rows in (_exports, _imports, _fixups) if has_all else ():
             yield ""
-            yield from columns(partial(_exports, part))
+            yield from columns(partial(rows, part))
 
 
 def columns(rows: Callable[[], Iterator[Cells]]) -> Iterator[str]:
@@ -132,6 +140,30 @@ def _exports(image: Image) -> Iterator[Cells]:
     yield "export", "address", "what"
     for export in exports_of(image):
         yield export.name, "none" if export.address is None else f"{export.address:#x}", export.what
+
+
+def _imports(image: Image) -> Iterator[Cells]:
+    yield "import", "library", "how"
+    for name, _, library, addend, weak in imports_of(image):
+        yield name, library, _how(addend, weak)
+
+
+def _fixups(image: Image) -> Iterator[Cells]:
+    yield "fixup", "address", "what", "target", "library", "how"
+    names = [plain(segment.name) for segment in image.segments]
+    for row in fixups_of(image):
+        bound = (row.name or "", row.library or "") if row.target is None else (f"{row.target:#x}", "")
+        yield (f"{names[row.segment]}+{row.offset:#x}", f"{row.address:#x}", "bind" if row.target is None else "rebase",
+               *bound, _how(row.addend, row.weak, row.key, row.diversity, row.address_diversity))
+
+
+def _how(addend: Optional[int], weak: Optional[bool], key: Optional[str] = None, diversity: Optional[int] = None,
+         has_address: Optional[bool] = None) -> str:
+    """What else is said of an import or of a pointer."""
+    words = [f"addend {addend}"] if addend else []
+    words += ["weak"] if weak else []
+    words += [f"key {key}", f"diversity {diversity:#x}"] if key else []
+    return ", ".join(words + (["address diversity"] if has_address else []))
 
 
 def _segments(image: Image) -> Iterator[Cells]:

@@ -60,7 +60,7 @@ EXAMPLES = {
 """,
     "show": """\
   kesvuot show program                           the layout of an accepted file
-  kesvuot show --all library                     its exports too
+  kesvuot show --all library                     its exports, imports and fixups too
   kesvuot show --json program                    an object with all fields
 """,
     "diff": """\
@@ -370,7 +370,7 @@ Shows the layout of an accepted file: its slices, and for each 64-bit image its 
 libraries, what its code signature says of itself, the cdhash of each code directory, and the entitlements. For a
 refused file it prints the rule.""")
     _add_rules_url(parser)
-    parser.add_argument("--all", action="store_true", help="print the exports too")
+    parser.add_argument("--all", action="store_true", help="print the exports, imports and fixups too")
     parser.add_argument("--json", action="store_true", help="print an object with all fields and load commands")
     parser.add_argument("file", metavar="FILE", help="a file, or - for standard input")
 
