@@ -7,8 +7,10 @@ import argparse
 import csv
 import os
 import resource
+import subprocess
 import sys
 from pathlib import Path
+from typing import Optional
 
 TOP = Path(__file__).resolve().parent.parent
 sys.path[1:1] = [str(TOP / "tests"), str(TOP / "packaging/vectors")]
@@ -46,6 +48,16 @@ def processor_time() -> float:
     """The milliseconds of processor time of all child processes that have ended."""
     usage = resource.getrusage(resource.RUSAGE_CHILDREN)
     return 1000 * (usage.ru_utime + usage.ru_stime)
+
+
+def times_of(command: list, rounds: int, timeout: Optional[float] = None) -> list[float]:
+    """The milliseconds of processor time of each run of a command, whose output goes nowhere."""
+    times = []
+    for _ in range(rounds):
+        begin = processor_time()
+        subprocess.run(command, check=False, stdout=subprocess.DEVNULL, stderr=subprocess.DEVNULL, timeout=timeout)
+        times.append(processor_time() - begin)
+    return times
 
 
 def print_row(*cells: object) -> None:

@@ -1,4 +1,4 @@
-// Reads all symbols of a file by kesvuot.h. bench/symbols runs it, and says what it prints.
+// Reads all symbols and fixups of a file by kesvuot.h. bench/symbols runs it, and says what it prints.
 //
 //     cc -std=c99 -O2 -I bindings/c -o by_kesvuot bench/symbol_readers/by_kesvuot.c build/lib/libkesvuot.a
 //     ./by_kesvuot ROUNDS REPEATS FILE
@@ -107,11 +107,32 @@ static void add_rows(struct reading *reading) { add_images(reading, 0); }
 
 static void add_names(struct reading *reading) { add_images(reading, 1); }
 
+static void add_fixups_of(struct reading *reading, const struct kesvuot_image *image) {
+    struct kesvuot_fixup_cursor cursor = {0};
+    struct kesvuot_fixup batch[BATCH];
+    size_t count;
+    while ((count = kesvuot_read_fixups(reading->bytes, reading->size, image, &cursor, batch, BATCH)) > 0) {
+        for (size_t k = 0; k < count; k++) {
+            reading->sums.values += batch[k].address;
+            reading->sums.sections += batch[k].segment + 1u;
+            reading->sums.lengths += batch[k].import;
+        }
+        reading->sums.count += count;
+    }
+}
+
+static void add_fixups(struct reading *reading) {
+    reading->sums = (struct sums){0};
+    for (size_t k = 0; k < reading->image_count; k++) {
+        add_fixups_of(reading, &reading->images[k]);
+    }
+}
+
 // Times
 
 static uint64_t now(void) {
     struct timespec time;
-    clock_gettime(CLOCK_MONOTONIC, &time);
+    clock_gettime(CLOCK_PROCESS_CPUTIME_ID, &time);
     return (uint64_t)time.tv_sec * 1000000000u + (uint64_t)time.tv_nsec;
 }
 
@@ -141,6 +162,7 @@ int main(int argc, char **argv) {
         printf("open %" PRIu64 "\n", time_of(open_images, &reading, repeats));
         print_sums("rows", time_of(add_rows, &reading, repeats), &reading.sums);
         print_sums("names", time_of(add_names, &reading, repeats), &reading.sums);
+        print_sums("fixups", time_of(add_fixups, &reading, repeats), &reading.sums);
     }
     free(reading.bytes);
     return 0;

@@ -1,4 +1,4 @@
-"""Reads all symbols of a file by the package kesvuot. bench/symbols runs it, and says what it prints.
+"""Reads all symbols and fixups of a file by the package kesvuot. bench/symbols runs it, and says what it prints.
 
     by_kesvuot.py ROUNDS REPEATS FILE
 """
@@ -46,5 +46,16 @@ def add_names(images: list[kesvuot.Image]) -> Sums:
     return Sums(count, values, sections, lengths)
 
 
+def add_fixups(images: list[kesvuot.Image]) -> Sums:
+    count = addresses = segments = imports = 0
+    for image in images:
+        for fixup in image.fixups:
+            count += 1
+            addresses += fixup.address
+            segments += fixup.segment + 1
+            imports += fixup.import_index or 0
+    return Sums(count, addresses, segments, imports)
+
+
 if __name__ == "__main__":
-    run(open_images, rows=add_rows, names=add_names)
+    run(open_images, rows=add_rows, names=add_names, fixups=add_fixups)

@@ -1,4 +1,4 @@
-//! Reads all symbols of a file by the crate kesvuot. bench/symbols builds and runs it, and says what
+//! Reads all symbols and fixups of a file by the crate kesvuot. bench/symbols builds and runs it, and says what
 //! it prints.
 //!
 //!     by_kesvuot ROUNDS REPEATS FILE
@@ -7,7 +7,7 @@ mod steps;
 
 use std::error::Error;
 
-use kesvuot::{Image, Profile, Symbol};
+use kesvuot::{Fixup, FixupTarget, Image, Profile, Symbol};
 use steps::{Sums, Task};
 
 /// The verdict, and the images of all slices that are read.
@@ -18,6 +18,14 @@ fn open_images(file: &[u8]) -> Result<Vec<Image<'_>>, Box<dyn Error>> {
 fn add_symbol(symbol: &Symbol, length: usize, sums: &mut Sums) {
     let section = symbol.section.map_or(0, |index| index as u64 + 1);
     sums.add(symbol.value, section, length);
+}
+
+fn add_fixup(fixup: &Fixup, sums: &mut Sums) {
+    let import = match fixup.target {
+        FixupTarget::Rebase(_) => 0,
+        FixupTarget::Bind { import, .. } => import,
+    };
+    sums.add(fixup.address, u64::from(fixup.segment) + 1, import as usize);
 }
 
 fn main() -> Result<(), Box<dyn Error>> {
@@ -33,6 +41,12 @@ fn main() -> Result<(), Box<dyn Error>> {
         task.sum("names", &images, |image, sums| {
             for (symbol, name) in image.symbols().with_names() {
                 add_symbol(&symbol, name.map_or(0, <[u8]>::len), sums);
+            }
+            Ok(())
+        })?;
+        task.sum("fixups", &images, |image, sums| {
+            for fixup in image.fixups() {
+                add_fixup(&fixup, sums);
             }
             Ok(())
         })?;
