@@ -6,7 +6,8 @@
 {} stands for the path of the file. The command accepts a file if it ends with the status 0, and does not print the text
 of --refusal. A line is printed of each file on which it did one of these, with what the file shows:
 
-    crash    a signal ended it, its status is above 128, or Python or Go printed the trace of an error that nothing caught
+    crash    a signal ended it, its status is above 128, or Python, Go or Rust printed the trace of an error that nothing
+             caught
     hang     it was still running after the timeout, and was ended
     memory   it had more memory than the limit at one time
     accepts  it accepts a file of which it cannot read all that the file names without leaving the file, a table or a
@@ -33,7 +34,8 @@ from typing import NamedTuple
 
 HERE = Path(__file__).resolve().parent
 PROFILES = ("layout", "linked")
-TRACE = re.compile(rb"^(?:Traceback \(most recent call last\):|panic: |goroutine \d+ \[running\])", re.MULTILINE)
+TRACE = re.compile(rb"^(?:Traceback \(most recent call last\):|panic: |goroutine \d+ \[running\]"
+                   rb"|thread '.*' (?:\(\d+\) )?panicked at )", re.MULTILINE)
 
 
 class Limits(NamedTuple):
