@@ -30,12 +30,14 @@ import tempfile
 import threading
 from concurrent.futures import ThreadPoolExecutor
 from pathlib import Path
-from typing import NamedTuple
+from typing import BinaryIO, NamedTuple
 
 HERE = Path(__file__).resolve().parent
 PROFILES = ("layout", "linked")
 TRACE = re.compile(rb"^(?:Traceback \(most recent call last\):|panic: |goroutine \d+ \[running\]"
                    rb"|thread '.*' (?:\(\d+\) )?panicked at )", re.MULTILINE)
+# So much of what a command prints is looked at, at its beginning and at its end.
+PIECE = 1 << 20
 
 
 class Limits(NamedTuple):
@@ -67,14 +69,22 @@ def run(command: list[str], limits: Limits = Limits(), refusal: str = "") -> Ran
         timer.cancel()
         end_group(process.pid)
         process.returncode = -os.WTERMSIG(ended) if os.WIFSIGNALED(ended) else os.WEXITSTATUS(ended)
-        out.seek(0)
-        printed = out.read()
+        printed = ends_of(out)
     mib = usage.ru_maxrss >> (20 if sys.platform == "darwin" else 10)
     if mib > limits.mib:
         return Ran("memory", f"{mib} MiB")
     if late.is_set():
         return Ran("hang", f"after {limits.seconds:g} s")
     return outcome(process.returncode, printed, refusal)
+
+
+def ends_of(file: BinaryIO) -> bytes:
+    """The beginning and the end of what a command has printed. Linux counts the memory of this process as memory of the
+    commands that it starts later, so it has to stay small."""
+    file.seek(0)
+    first = file.read(PIECE)
+    file.seek(max(len(first), file.seek(0, os.SEEK_END) - PIECE))
+    return first + b"\n" + file.read(PIECE)
 
 
 def outcome(status: int, printed: bytes, refusal: str) -> Ran:
