@@ -36,10 +36,10 @@ As a call holds the GIL, threads do not judge in parallel: use processes for tha
     python3 -m kesvuot check PATH..
 
 is the command `kesvuot`, which judges files and folders (docs/guide/kesvuot.md). As in version 1.0.0,
-`python3 -m kesvuot FILE..` judges files alone. With `--json` each of them gives an object with "file" and "verdict": "accepted", with "slices";
-"refused", with "rule" and "place"; or null, with "error". A slice has "place", "size", "arch" and "is_read", and if it
-is read also "filetype", "flags", "uuid", "base", "entry", "builds", "libraries", "segments", each with its "sections",
-and in "symbols" how many there are.
+`python3 -m kesvuot FILE..` judges files alone. With `--json` each of them gives an object with "file" and "verdict":
+"accepted", with "slices"; "refused", with "rule" and "place"; or null, with "error". A slice has "place", "size",
+"arch" and "is_read", and if it is read also "filetype", "flags", "uuid", "base", "entry", "builds", "libraries",
+"segments", each with its "sections", and in "symbols" how many there are.
 
 The library comes from the folder KESVUOT_LIB_DIR if that is set, otherwise from the folder of this package, from `lib`
 of the installation or the archive that the package is in, or from where the system finds it. It is loaded by the first

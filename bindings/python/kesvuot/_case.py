@@ -42,7 +42,8 @@ FIELDS = {
     "fat-table": "nfat_arch", "slice": "offset size", "headers": "sizeofcmds",
     "command": "cmd cmdsize", "segment": "fileoff filesize", "segment-memory": "vmaddr vmsize",
     "section-bytes": "offset size", "section-memory": "addr size", "relocations": "reloff nreloc",
-    "data-in-code": "offset length", "chain-header": "imports_count", "chain-starts": "size page_size pointer_format segment_offset page_count"}
+    "data-in-code": "offset length", "chain-header": "imports_count",
+    "chain-starts": "size page_size pointer_format segment_offset page_count"}
 # The structures of chained fixups, by the parts that they are.
 CHAIN_STRUCTURES = {
     "chain-header": "dyld_chained_fixups_header", "chain-array": "dyld_chained_starts_in_image",

@@ -11,12 +11,13 @@ from typing import Any, Dict, Iterator, List, NamedTuple
 
 from ._check import ACCEPTED, NO_VERDICT, Choice, Outcome, Target, judge
 from ._entitlements import Unreadable, entitlement_values
-from ._files import Command, File, Image, Slice
+from ._files import File, Image, Slice
 from ._layout import cdhashes_of, exports_of, libraries_of, signatures_of
 from ._names import (
     FILETYPES, LIBRARIES, command_name, count_text, plain, platform_name, protection_text, version_text)
 from ._output import GREEN, RED, Output, coloured, say
 from ._reports import check_object, file_object, reason_text, shown
+from ._rows import Command
 from ._show import signature_text
 from ._structures import LISTED, STRUCTURES, number_in, structure_of
 from ._symbols import SymbolKind

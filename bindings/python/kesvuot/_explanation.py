@@ -46,7 +46,7 @@ class Explanation(NamedTuple):
 
     `slice`, `command`, `section` and `symbol` are the indices of those whose structure has the place, or None."""
 
-    at: Optional[Part]
+    at: Part
     first: Optional[Part]
     second: Optional[Part]
     value: int
@@ -70,6 +70,7 @@ def explain(data: Data, refused: Refused) -> Optional[Explanation]:
         return None
     fields = EXPLANATION.unpack(written)
     at, first, second = (_part(*fields[place:place + 5]) for place in (0, 5, 10))
+    assert at, "a refusal without what is at its place"
     return Explanation(at, first, second, fields[15], fields[16], *map(_index, fields[17:]))
 
 

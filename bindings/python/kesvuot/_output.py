@@ -7,7 +7,7 @@ import io
 import os
 import signal
 import sys
-from typing import Callable, Tuple
+from typing import Callable, NoReturn, Tuple
 
 from ._progress import is_terminal
 
@@ -110,7 +110,9 @@ def discard(descriptor: int) -> None:
         os.dup2(null, descriptor)
 
 
-def end_by(number: int) -> None:
+def end_by(number: int) -> NoReturn:
     """Ends this process by a signal, as it ends one that does nothing about it: nothing more is written."""
     signal.signal(number, signal.SIG_DFL)
     os.kill(os.getpid(), number)
+    # Whoever has started the process has blocked the signal. This is the status that a shell has for it.
+    os._exit(128 + number)  # pylint: disable=protected-access

@@ -218,7 +218,8 @@ def _read_policy(words: argparse.Namespace) -> Optional[Policy]:
     """The policy, if there is one. A malformed one is an error as a wrong option is."""
     if words.policy is None:
         return None
-    from ._policy import Malformed, read_policy  # pylint: disable=import-outside-toplevel # only a policy needs them
+    from ._policy import read_policy  # pylint: disable=import-outside-toplevel # only a policy needs them
+    from ._policy_values import Malformed  # pylint: disable=import-outside-toplevel
     parser: argparse.ArgumentParser = words.parser
     try:
         return read_policy(words.policy)
