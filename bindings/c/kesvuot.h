@@ -508,7 +508,8 @@ struct kesvuot_segment {       /* LC_SEGMENT_64. No address is in two segments *
     struct kesvuot_span name;  /* any bytes. Two segments can have one name */
     struct kesvuot_span bytes; /* all filesize bytes from fileoff on */
     uint64_t vmaddr;           /* not aligned to a page, and neither is vmsize: two segments can share a page */
-    uint64_t vmsize;           /* 0: the segment is not mapped, and no address is in it */
+    uint64_t vmsize;           /* 0: the segment is not mapped, and no address is in it. A small file can ask for more
+                                  memory than there is: set a limit of your own */
     uint64_t last;             /* its last address, vmaddr + vmsize - 1: the sum alone can be 2^64. 0 if vmsize is 0 */
     uint64_t fileoff;          /* any number if filesize is 0 */
     uint64_t filesize;         /* at most vmsize, unless vmsize is 0 */
@@ -562,8 +563,9 @@ struct kesvuot_command {       /* load_command */
 
 /* How to read `type` and `desc`, by the constants of <mach-o/nlist.h> below, such as KESVUOT_N_STAB:
  * - If `type & N_STAB` is not 0, it is a debugging entry. Its `type` says which, and nothing of the following holds.
- * - `type & N_TYPE` is N_UNDF or N_PBUD if another image defines it, N_SECT if it is defined in a section, N_ABS if its
- *   value is a number that no slide changes, N_INDR if it stands for another symbol, or any other number.
+ * - `type & N_TYPE` is N_UNDF or N_PBUD if another image defines it (an external N_UNDF with another value than 0 is a
+ *   common symbol of so many bytes), N_SECT if it is defined in a section, N_ABS if its value is a number that no slide
+ *   changes, N_INDR if it stands for another symbol, or any other number.
  * - `type & N_EXT`: it is external. `type & N_PEXT`: it was external, and a linker has made it private.
  * - `desc` of an undefined symbol. N_WEAK_REF: it may be missing when the image is loaded. `desc >> 8` is the ordinal
  *   of a library, if `flags` of the image have MH_TWOLEVEL, and the type is N_PBUD, or N_UNDF with the value 0. It is
@@ -819,9 +821,11 @@ struct kesvuot_fixup {         /* a pointer of 8 bytes. Only the linked profile 
     uint64_t address;          /* of the pointer, before any slide: vmaddr + offset of its segment, modulo 2^64 */
     uint64_t offset;           /* in its segment, and in `bytes` of the segment. From a cursor of zeros on all 8 bytes
                                   are there, in any file */
-    uint64_t target;           /* REBASE: the address to which it points, before any slide. Any number. Otherwise 0 */
+    uint64_t target;           /* REBASE: the address to which it points, before any slide: the whole number that is
+                                  written, with high8 of a chained pointer as its highest byte. Any number. Otherwise
+                                  0 */
     uint64_t import;           /* BIND: the index of the row that kesvuot_read_imports writes. In a file that linked
-                                  refused it can be past the last row: test it. Otherwise 0 */
+                                  refuses it can be past the last row: test it. Otherwise 0 */
     int64_t addend;            /* BIND: what is added in all to the address that is found: the sum, modulo 2^64 and
                                   signed, of the addend of the import and of what the pointer adds itself. Any number.
                                   Otherwise 0 */
@@ -834,8 +838,9 @@ struct kesvuot_fixup {         /* a pointer of 8 bytes. Only the linked profile 
 };
 
 /* The pointers that a loader writes, each write once and in the order of a loader, in batches as of the tables of an
- * image. In a file that the linked profile accepts, no write that these commands ask for is left out. Relocations of
- * LC_DYSYMTAB are not among the rows.
+ * image. A pointer can be written more than once, such as by a rebase and then a lazy bind: apply the rows in order. In
+ * a file that the linked profile accepts, no write that these commands ask for is left out, and there are fewer rows
+ * than the file has bytes. Relocations of LC_DYSYMTAB are not among the rows.
  *
  * By opcodes: the pointers of the rebase stream, then of the bind, the weak bind and the lazy bind stream. dyld 4 binds
  * the weak ones last, which matters for a weak and a lazy bind of one pointer: bind-once of the unambiguous profile
@@ -1221,6 +1226,15 @@ uint32_t kesvuot_find_address(const void *file, size_t size, const struct kesvuo
 #define KESVUOT_VM_PROT_WRITE 2
 #define KESVUOT_VM_PROT_EXECUTE 4
 
+/* Code signatures: magic numbers of blobs. (kern/cs_blobs.h) */
+#define KESVUOT_CSMAGIC_EMBEDDED_SIGNATURE 0xfade0cc0
+#define KESVUOT_CSMAGIC_CODEDIRECTORY 0xfade0c02
+#define KESVUOT_CSMAGIC_REQUIREMENTS 0xfade0c01
+#define KESVUOT_CSMAGIC_EMBEDDED_ENTITLEMENTS 0xfade7171
+#define KESVUOT_CSMAGIC_EMBEDDED_DER_ENTITLEMENTS 0xfade7172
+#define KESVUOT_CSMAGIC_EMBEDDED_LAUNCH_CONSTRAINT 0xfade8181
+#define KESVUOT_CSMAGIC_BLOBWRAPPER 0xfade0b01
+
 /* Code signatures: slots of code directories, and types of hashes. (kern/cs_blobs.h) */
 #define KESVUOT_CSSLOT_CODEDIRECTORY 0
 #define KESVUOT_CSSLOT_ALTERNATE_CODEDIRECTORIES 0x1000
@@ -1235,6 +1249,17 @@ uint32_t kesvuot_find_address(const void *file, size_t size, const struct kesvuo
 #define KESVUOT_CS_HASHTYPE_SHA256 2
 #define KESVUOT_CS_HASHTYPE_SHA256_TRUNCATED 3
 #define KESVUOT_CS_HASHTYPE_SHA384 4
+
+/* Code signatures: flags of a code directory. (kern/cs_blobs.h) */
+#define KESVUOT_CS_ADHOC 0x2
+#define KESVUOT_CS_HARD 0x100
+#define KESVUOT_CS_KILL 0x200
+#define KESVUOT_CS_CHECK_EXPIRATION 0x400
+#define KESVUOT_CS_RESTRICT 0x800
+#define KESVUOT_CS_ENFORCEMENT 0x1000
+#define KESVUOT_CS_REQUIRE_LV 0x2000
+#define KESVUOT_CS_RUNTIME 0x10000
+#define KESVUOT_CS_LINKER_SIGNED 0x20000
 
 /* The size in bytes of a cdhash. (kern/cs_blobs.h) */
 #define KESVUOT_CS_CDHASH_LEN 20

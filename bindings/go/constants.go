@@ -208,6 +208,15 @@ const (
 	VM_PROT_WRITE   = 2
 	VM_PROT_EXECUTE = 4
 
+	// Code signatures: magic numbers of blobs. (kern/cs_blobs.h)
+	CSMAGIC_EMBEDDED_SIGNATURE         = 0xfade0cc0
+	CSMAGIC_CODEDIRECTORY              = 0xfade0c02
+	CSMAGIC_REQUIREMENTS               = 0xfade0c01
+	CSMAGIC_EMBEDDED_ENTITLEMENTS      = 0xfade7171
+	CSMAGIC_EMBEDDED_DER_ENTITLEMENTS  = 0xfade7172
+	CSMAGIC_EMBEDDED_LAUNCH_CONSTRAINT = 0xfade8181
+	CSMAGIC_BLOBWRAPPER                = 0xfade0b01
+
 	// Code signatures: slots of code directories, and types of hashes. (kern/cs_blobs.h)
 	CSSLOT_CODEDIRECTORY             = 0
 	CSSLOT_ALTERNATE_CODEDIRECTORIES = 0x1000
@@ -222,6 +231,17 @@ const (
 	CS_HASHTYPE_SHA256               = 2
 	CS_HASHTYPE_SHA256_TRUNCATED     = 3
 	CS_HASHTYPE_SHA384               = 4
+
+	// Code signatures: flags of a code directory. (kern/cs_blobs.h)
+	CS_ADHOC            = 0x2
+	CS_HARD             = 0x100
+	CS_KILL             = 0x200
+	CS_CHECK_EXPIRATION = 0x400
+	CS_RESTRICT         = 0x800
+	CS_ENFORCEMENT      = 0x1000
+	CS_REQUIRE_LV       = 0x2000
+	CS_RUNTIME          = 0x10000
+	CS_LINKER_SIGNED    = 0x20000
 
 	// The size in bytes of a cdhash. (kern/cs_blobs.h)
 	CS_CDHASH_LEN = 20

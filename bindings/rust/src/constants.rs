@@ -208,6 +208,15 @@ pub const VM_PROT_READ: u32 = 1;
 pub const VM_PROT_WRITE: u32 = 2;
 pub const VM_PROT_EXECUTE: u32 = 4;
 
+// Code signatures: magic numbers of blobs. (kern/cs_blobs.h)
+pub const CSMAGIC_EMBEDDED_SIGNATURE: u32 = 0xfade_0cc0;
+pub const CSMAGIC_CODEDIRECTORY: u32 = 0xfade_0c02;
+pub const CSMAGIC_REQUIREMENTS: u32 = 0xfade_0c01;
+pub const CSMAGIC_EMBEDDED_ENTITLEMENTS: u32 = 0xfade_7171;
+pub const CSMAGIC_EMBEDDED_DER_ENTITLEMENTS: u32 = 0xfade_7172;
+pub const CSMAGIC_EMBEDDED_LAUNCH_CONSTRAINT: u32 = 0xfade_8181;
+pub const CSMAGIC_BLOBWRAPPER: u32 = 0xfade_0b01;
+
 // Code signatures: slots of code directories, and types of hashes. (kern/cs_blobs.h)
 pub const CSSLOT_CODEDIRECTORY: u32 = 0;
 pub const CSSLOT_ALTERNATE_CODEDIRECTORIES: u32 = 0x1000;
@@ -222,6 +231,17 @@ pub const CS_HASHTYPE_SHA1: u8 = 1;
 pub const CS_HASHTYPE_SHA256: u8 = 2;
 pub const CS_HASHTYPE_SHA256_TRUNCATED: u8 = 3;
 pub const CS_HASHTYPE_SHA384: u8 = 4;
+
+// Code signatures: flags of a code directory. (kern/cs_blobs.h)
+pub const CS_ADHOC: u32 = 0x2;
+pub const CS_HARD: u32 = 0x100;
+pub const CS_KILL: u32 = 0x200;
+pub const CS_CHECK_EXPIRATION: u32 = 0x400;
+pub const CS_RESTRICT: u32 = 0x800;
+pub const CS_ENFORCEMENT: u32 = 0x1000;
+pub const CS_REQUIRE_LV: u32 = 0x2000;
+pub const CS_RUNTIME: u32 = 0x1_0000;
+pub const CS_LINKER_SIGNED: u32 = 0x2_0000;
 
 // The size in bytes of a cdhash. (kern/cs_blobs.h)
 pub const CS_CDHASH_LEN: u64 = 20;
