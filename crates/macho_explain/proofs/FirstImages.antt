@@ -50,13 +50,13 @@ module _ (file : List ℕ) where
       ]
 
   module _ (byte index : ℕ) where
-    -- a slice that is not read, or has it not, is none
+    -- a slice that is not read, or lacks it, has no place here
     pub no_image : (slice : Slice) → slice_get (slices_of file) index ≡ Some (slice_of slice) → MarksReadInside file slice → ¬ (IsTrue slice.read × Holds slice.span byte) → ¬ HasImageWith file byte index
     no_image slice listed marks none has =
         let here : IsImageWith file byte (slice_of slice) = rw listed at has in
         none (marks.1 (here.0, here.1), here.2)
 
-  -- a slice with an index past them all is none
+  -- there is no slice with an index past them all
   pub none_past : (byte k : ℕ) → length (slices_of file) ≤ k → ¬ HasImageWith file byte k
   none_past byte k past = of_none (IsImageWith file byte) (slice_get (slices_of file) k) (slice_get_past (slices_of file) k past)
 

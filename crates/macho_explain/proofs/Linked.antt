@@ -23,7 +23,7 @@ use Rattle.macho_tables.proofs.StartNumbers.{bad_number_near}
 use Rattle.macho_explain.specs.Compared.{HasByte, HasFunction, IsEntryPlace}
 use Rattle.macho_explain.specs.Wholes.{InTable, Opens, named_table}
 
--- a start that is stray is that of a function
+-- a stray start is the start of a function
 stray_has : (image table : List ℕ) (offset : ℕ) → StrayStart image table offset → HasFunction image table offset
 stray_has image table offset broken =
     let (base, is, (address, starts, none)) = some_of (λ base. IsStrayStart image base table offset) (base_of image (commands_of image)) broken in
