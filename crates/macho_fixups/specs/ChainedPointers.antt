@@ -6,6 +6,7 @@ use Rattle.macho_chains.specs.declared.chain_starts.PointerFormat.{PointerFormat
 use Rattle.macho_chains.specs.declared.chain_starts.PointerFormat.TheVariants as format
 use Rattle.macho_fields.specs.declared.header.fixup_chains.TheConstants as chained
 use Rattle.macho_tables.specs.Numbers.{twos_complement}
+use Rattle.macho_fixups.specs.Rows.{row_of_kind}
 use Rattle.macho_fixups.specs.declared.row.KesvuotFixup.{KesvuotFixup}
 use Rattle.macho_fixups.specs.declared.row.TheConstants as kind
 
@@ -59,22 +60,6 @@ signed_row format raw row =
       key = raw / 2 ^ 49 % 2 ^ 2;
       authenticated = 1;
     } else row
-
--- a row in which only its kind is set
-abbrev pub row_of_kind : ℕ → KesvuotFixup
-row_of_kind kind = record {
-  address = 0;
-  offset = 0;
-  target = 0;
-  import = 0;
-  addend = pos 0;
-  segment = 0;
-  kind = kind;
-  diversity = 0;
-  address_diversity = 0;
-  key = 0;
-  authenticated = 0;
-}
 
 -- what a rebase says, in a row without its location
 unfoldable pub rebase_of : ℕ → ℕ → PointerFormat → ℕ → KesvuotFixup

@@ -6,5 +6,6 @@ pub mod ChainedPointers
 pub mod Fixups
 pub mod Locations
 pub mod Opcodes
+pub mod Rows
 pub mod Streams
 pub mod Walks

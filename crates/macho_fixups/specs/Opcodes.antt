@@ -1,5 +1,5 @@
 -- The fixups that the opcodes of an image ask for, and what they import. (mach-o/loader.h: dyld_info_command)
-use Rattle.std.specs.Prelude.{ℕ, zero, suc, ◌+◌, ◌-◌, ◌*◌, ◌%◌, ◌^◌, ◌==◌, not, pos, negsuc, bit_and, List, [], ◌∷◌, ◌++◌, map, get_or, slice_get, if◌then◌else◌, Option, Some, None, ℤ}
+use Rattle.std.specs.Prelude.{ℕ, zero, suc, ◌+◌, ◌-◌, ◌*◌, ◌%◌, ◌^◌, ◌==◌, not, negsuc, bit_and, List, [], ◌∷◌, ◌++◌, map, get_or, slice_get, if◌then◌else◌, Option, Some, None, ℤ}
 use Rattle.std.specs.Option.{option_map, option_map_or, option_and_then, unwrap_or}
 use Rattle.macho_fields.specs.Field.{field}
 use Rattle.macho_fields.specs.declared.bytes.Order.TheVariants.{Little}
@@ -12,6 +12,7 @@ use Rattle.macho_rows.specs.declared.span.KesvuotSpan.{KesvuotSpan}
 use Rattle.macho_spans.specs.declared.span.Span.{Span}
 use Rattle.macho_tables.specs.declared.limits.TheConstants as limit
 use Rattle.macho_fixups.specs.Locations.{no_room, place_in, address_in}
+use Rattle.macho_fixups.specs.Rows.{row_of_kind}
 use Rattle.macho_fixups.specs.Streams.{all_streams, writes_left}
 use Rattle.macho_fixups.specs.Walks.{no_walk, offset_past}
 use Rattle.macho_fixups.specs.declared.cursor.KesvuotFixupCursor.{KesvuotFixupCursor}
@@ -31,35 +32,24 @@ room_in rooms k = get_or rooms k no_room
 
 -- the pointer at an offset of a segment, which the image has as the number `target`
 abbrev pub rebase_row : Room → ℕ → ℕ → ℕ → KesvuotFixup
-rebase_row room segment offset target = record {
-  address = address_in room offset;
-  offset = offset;
-  target = target;
-  import = 0;
-  addend = pos 0;
-  segment = segment;
-  kind = kind.REBASE;
-  diversity = 0;
-  address_diversity = 0;
-  key = 0;
-  authenticated = 0;
-}
+rebase_row room segment offset target =
+    record (row_of_kind kind.REBASE) {
+      address = address_in room offset;
+      offset = offset;
+      target = target;
+      segment = segment;
+    }
 
 -- the pointer at an offset of a segment, which is bound to the import with a number
 abbrev pub bind_row : Room → ℕ → ℕ → ℕ → ℤ → KesvuotFixup
-bind_row room segment offset number addend = record {
-  address = address_in room offset;
-  offset = offset;
-  target = 0;
-  import = number;
-  addend = addend;
-  segment = segment;
-  kind = kind.BIND;
-  diversity = 0;
-  address_diversity = 0;
-  key = 0;
-  authenticated = 0;
-}
+bind_row room segment offset number addend =
+    record (row_of_kind kind.BIND) {
+      address = address_in room offset;
+      offset = offset;
+      import = number;
+      addend = addend;
+      segment = segment;
+    }
 
 -- the name in these bytes of a stream, without the zero byte that ends it; the stream begins at a place in the file
 abbrev pub name_span : ℕ → List ℕ → Option Span → KesvuotSpan

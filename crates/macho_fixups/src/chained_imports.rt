@@ -45,18 +45,6 @@ impl<'a> ChainImports<'a> {
         Some(ChainImports { table, header })
     }
 
-    /// The import with this number. It is `None` if the table does not have it, or if no zero byte of the table ends
-    /// its name.
-    pub fn import(&self, index: u64) -> Option<KesvuotImport>
-        ensures { MatchOption result
-            (is_listed (bytes_of self.now.table.bytes) self.now.header 0 index ≡ false)
-            (λ row. (is_listed (bytes_of self.now.table.bytes) self.now.header 0 index ≡ true)
-            × (row ≡ import_row self.now.table.place (bytes_of self.now.table.bytes) self.now.header index)) }
-    {
-        let (row, _) = self.listed(0, index)?;
-        Some(row)
-    }
-
     // The import with this number, with the size of its name, where the names before it have so many bytes.
     #[tactic(auto, unfolding(crate::specs::ChainedImports::is_listed))]
     fn listed(&self, names: u64, index: u64) -> Option<(KesvuotImport, u64)>
@@ -130,8 +118,7 @@ pub fn has_import(table: Bytes, header: ChainHeader, index: u64) -> bool
     ensures there { result ≡ has_import (bytes_of table.entry) header index }
     ensures near { result ≡ true → index < 2 ^ 32 }
 {
-    let count = header.imports_count;
-    index < u64::from(count) && header.import_offset(count) <= table.len()
+    index < u64::from(header.imports_count) && !header.imports_end_past(table)
 }
 
 /// The addend of the import with this number, which the table has.

@@ -4,9 +4,9 @@
 
 ghost use Rattle.std.specs.Prelude.{◌≡◌, ◌^◌, ◌<◌, ℤ};
 ghost use Rattle.macho_tables.specs.Numbers.{twos_complement};
-ghost use Rattle.macho_fixups.specs.ChainedPointers.{bind_of, counts_from_base, is_authenticated, own_addend, plain_target, rebase_of, row_of_kind, signed_row, target_of};
+ghost use Rattle.macho_fixups.specs.ChainedPointers.{bind_of, counts_from_base, is_authenticated, own_addend, plain_target, rebase_of, signed_row, target_of};
 
-use crate::row::{BIND, KesvuotFixup, REBASE};
+use crate::row::{BIND, KesvuotFixup, REBASE, row_of_kind};
 use macho_chains::chain_starts::PointerFormat;
 use macho_fields::header::fixup_chains::{
     DYLD_CHAINED_PTR_64_OFFSET, DYLD_CHAINED_PTR_ARM64E_USERLAND,
@@ -51,25 +51,6 @@ pub fn bind_of(format: PointerFormat, raw: u64, import: u64, addend: i64) -> Kes
         ..row_of_kind(BIND)
     };
     signed_row(format, raw, row)
-}
-
-// A row in which only its kind is set.
-fn row_of_kind(kind: u32) -> KesvuotFixup
-    ensures { result ≡ row_of_kind kind }
-{
-    KesvuotFixup {
-        address: 0,
-        offset: 0,
-        target: 0,
-        import: 0,
-        addend: 0,
-        segment: 0,
-        kind,
-        diversity: 0,
-        address_diversity: 0,
-        key: 0,
-        authenticated: 0,
-    }
 }
 
 // A row with how the pointer with these bits is signed.

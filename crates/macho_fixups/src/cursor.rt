@@ -8,7 +8,7 @@ pub struct KesvuotFixupCursor {
     /// Of opcodes: how many streams were read.
     pub stream: u64,
     /// Of opcodes: the offset in the stream of the next opcode. Of chains: where the next load command begins in the
-    /// image, and of imports the offset in the table of the next one.
+    /// image. Imports of chains use `import` and `name_size` alone.
     pub place: u64,
     /// Of chains: how many load commands are before it.
     pub commands: u64,

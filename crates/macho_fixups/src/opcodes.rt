@@ -7,7 +7,7 @@ ghost use Rattle.macho_fixups.specs.Opcodes.{walk_of, position_of, cursor_of, ne
 use crate::batch::Fixups;
 use crate::cursor::KesvuotFixupCursor;
 use crate::location::{NO_ROOM, Room, near_rooms};
-use crate::row::{BIND, KesvuotFixup, KesvuotImport, REBASE};
+use crate::row::{BIND, KesvuotFixup, KesvuotImport, REBASE, row_of_kind};
 use crate::streams::{Position, Streams, stream_numbered};
 use crate::walk::{Walk, offset_past};
 use macho_fields::{Bytes, Order, Span};
@@ -183,14 +183,8 @@ impl Pointer {
             address: self.room.address(self.offset),
             offset: self.offset,
             target,
-            import: 0,
-            addend: 0,
             segment: u32::from(self.segment),
-            kind: REBASE,
-            diversity: 0,
-            address_diversity: 0,
-            key: 0,
-            authenticated: 0,
+            ..row_of_kind(REBASE)
         }
     }
 
@@ -198,10 +192,12 @@ impl Pointer {
         ensures { result ≡ bind_row self.room self.segment self.offset number addend }
     {
         KesvuotFixup {
+            address: self.room.address(self.offset),
+            offset: self.offset,
             import: number,
             addend,
-            kind: BIND,
-            ..self.rebase_row(0)
+            segment: u32::from(self.segment),
+            ..row_of_kind(BIND)
         }
     }
 }

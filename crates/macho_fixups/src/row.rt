@@ -1,5 +1,8 @@
 //! The rows of fixups and of imports.
 
+ghost use Rattle.std.specs.Prelude.{◌≡◌};
+ghost use Rattle.macho_fixups.specs.Rows.{row_of_kind};
+
 use macho_rows::span::KesvuotSpan;
 
 /// `kind` of a pointer to a part of the image itself, which moves with it.
@@ -50,4 +53,23 @@ pub struct KesvuotImport {
     pub weak: u32,
     /// Reserved: 0.
     pub reserved: u32,
+}
+
+/// A row in which only its kind is set.
+pub fn row_of_kind(kind: u32) -> KesvuotFixup
+    ensures { result ≡ row_of_kind kind }
+{
+    KesvuotFixup {
+        address: 0,
+        offset: 0,
+        target: 0,
+        import: 0,
+        addend: 0,
+        segment: 0,
+        kind,
+        diversity: 0,
+        address_diversity: 0,
+        key: 0,
+        authenticated: 0,
+    }
 }
