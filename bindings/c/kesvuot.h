@@ -761,6 +761,8 @@ uint32_t kesvuot_find_symbol(const void *file, size_t size, const struct kesvuot
  * not be defined in the image: look at its type.
  * OK: the symbol, and in `number` its index in the table.
  * NONE: no symbol has the name. All fields are 0, except `section`, which is KESVUOT_NO_SECTION.
+ * In a file that the unambiguous profile accepts, if the symbol is external and defined, all definitions of the name
+ * have its value, its kind and its weakness.
  * A symbol with strx 0 has no name, not an empty one. The call reads all symbols, and compares at most
  * name_size + 1 bytes of each: for many names, read the symbols once. */
 uint32_t kesvuot_find_name(const void *file, size_t size, const struct kesvuot_image *image, const void *name,
@@ -897,6 +899,7 @@ struct kesvuot_export {       /* an export. Only the linked profile judges its f
  * NONE: the image exports no such name, or has no trie. Also if a node on the way does not end in the trie, or a number
  * or the name of the export does not end in its part of the node. Also if the nodes on the way, each counted as often
  * as it is met, have more bytes than the trie. All fields are 0.
+ * In a file that the unambiguous profile accepts, it is the export that any reader of the trie finds under the name.
  * The call reads the load commands, and then the nodes on the way. It takes no memory. */
 uint32_t kesvuot_find_export(const void *file, size_t size, const struct kesvuot_image *image, const void *name,
                              size_t name_size, struct kesvuot_export *found);

@@ -4,6 +4,7 @@ pub mod BadSlices
 pub mod Edges
 pub mod Entries
 pub mod FoundExports
+pub mod NamedAlike
 pub mod NamedData
 pub mod NearestSymbol
 pub mod Relocated

@@ -14,6 +14,7 @@ pub mod Relocations
 pub mod RuleNumbers
 pub mod SourceVersion
 pub mod Status
+pub mod SymbolNames
 pub mod Tables
 pub mod Threads
 pub mod Verdict

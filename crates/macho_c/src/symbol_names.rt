@@ -4,7 +4,9 @@ ghost use Rattle.macho_fields.specs.Image.{commands_of};
 ghost use Rattle.macho_fields.specs.Segment.{section_count};
 ghost use Rattle.macho_rows.specs.Image.{image_in, ShowsUnbroken};
 ghost use Rattle.macho_rows.specs.SymbolNames.{IsNamed, FindsNamed};
+ghost use Rattle.macho_alike.specs.DefinitionModels.{AllDefinitionsAgree};
 ghost use Rattle.macho_c.specs.Status.{AnswersSymbol, Tells};
+ghost use Rattle.macho_c.specs.SymbolNames.{FindsMeaning};
 
 use crate::status::{NONE, OK};
 use macho_image::Symbols;
@@ -29,6 +31,8 @@ pub extern "C" fn kesvuot_find_name(
         → Tells (FindsNamed (image_in file.now image.now) name.now)
         (AnswersSymbol (section_count (image_in file.now image.now) (commands_of (image_in file.now image.now))) result
         number.new symbol.new) }
+    ensures alike { ShowsUnbroken file.now image.now → AllDefinitionsAgree (image_in file.now image.now)
+        → FindsMeaning (image_in file.now image.now) name.now result symbol.new }
 {
     *symbol = NO_SYMBOL;
     *number = 0;

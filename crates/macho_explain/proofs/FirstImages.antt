@@ -56,7 +56,7 @@ module _ (file : List ℕ) where
         let here : IsImageWith file byte (slice_of slice) = rw listed at has in
         none (marks.1 (here.0, here.1), here.2)
 
-  -- there is no slice with an index past them all
+  -- no slice has an index past them all
   pub none_past : (byte k : ℕ) → length (slices_of file) ≤ k → ¬ HasImageWith file byte k
   none_past byte k past = of_none (IsImageWith file byte) (slice_get (slices_of file) k) (slice_get_past (slices_of file) k past)
 

@@ -10,6 +10,7 @@ use Rattle.macho_rows.specs.Symbols.{symbol_row}
 use Rattle.macho_rows.specs.declared.image.KesvuotImage.{KesvuotImage}
 use Rattle.macho_rows.proofs.NamedSymbols.{shown_named, seen_named}
 use Rattle.macho_rows.proofs.Ranged.{items_few}
+use Rattle.macho_c.proofs.NamedAlike.{finds_meaning}
 use Rattle.macho_c.proofs.symbol_names.kesvuot_find_name.Goals as goal
 
 pub first_named-requires : goal.first_named-requires
@@ -60,3 +61,13 @@ returns-in-None-clause-all c = λ shows. (
       c.strings.ensures c.in_table-symbols.ensures c.held.ensures.bytes c.in-None.ensures),
   (refl, refl, refl),
 )
+
+pub returns-in-Some-clause-alike : goal.returns-in-Some-clause-alike
+returns-in-Some-clause-alike c = λ shows agree.
+    let (found, is, answer) = returns-in-Some-clause-all c shows in
+    finds_meaning (image_in c.args.file.now c.args.image.now) c.args.name.now _ _ _ _ found agree is answer
+
+pub returns-in-None-clause-alike : goal.returns-in-None-clause-alike
+returns-in-None-clause-alike c = λ shows agree.
+    let (found, is, answer) = returns-in-None-clause-all c shows in
+    finds_meaning (image_in c.args.file.now c.args.image.now) c.args.name.now _ _ _ _ found agree is answer
