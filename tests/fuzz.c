@@ -162,8 +162,9 @@ static const struct table tables[TABLE_COUNT] = {
     {read_indirects, sizeof(uint32_t), offsetof(struct kesvuot_image, indirect_count)},
 };
 
-// How many relocations of a section are read, and how many functions, blobs and edges of a node at once.
-enum { RELOCATIONS = 8, CODE_ROWS = 8, BLOBS = 8, EDGES = 3 };
+// How many relocations of a section are read, and how many functions, blobs, edges of a node and fixups at once; and how
+// many batches of fixups.
+enum { RELOCATIONS = 8, CODE_ROWS = 8, BLOBS = 8, EDGES = 3, FIXUPS = 16, BATCHES = 256 };
 
 // All rows of a table, and two more, which no call writes.
 struct rows {
@@ -326,6 +327,70 @@ static void check_code(const struct held *held, struct kesvuot_cursor cursor) {
         check_inside(held, data[k].bytes);
         if (!is_empty(data[k].bytes)) {
             check_part(held, data[k].bytes, data[k].offset, data[k].length);
+        }
+    }
+}
+
+// Fixups
+
+static void check_fixup(const struct kesvuot_fixup *row) {
+    CHECK(row->kind == KESVUOT_REBASE || row->kind == KESVUOT_BIND);
+    CHECK(row->kind == KESVUOT_BIND || (row->import == 0 && row->addend == 0));
+    CHECK(row->kind == KESVUOT_REBASE || row->target == 0);
+    CHECK(row->authenticated < 2 && row->address_diversity < 2 && row->key < 4);
+    CHECK(row->authenticated || (row->diversity == 0 && row->address_diversity == 0 && row->key == 0));
+}
+
+// Some imports from a cursor on, and how many there are.
+static size_t check_imports(const struct held *held, struct kesvuot_fixup_cursor *cursor) {
+    struct kesvuot_import rows[FIXUPS + 1];
+    memset(rows, UNWRITTEN, sizeof rows);
+    const size_t count = kesvuot_read_imports(OF(held), cursor, rows, FIXUPS);
+    CHECK(count <= FIXUPS && is_unwritten((const uint8_t *)&rows[count], sizeof *rows));
+    for (size_t k = 0; k < count; k++) {
+        check_inside(held, rows[k].name);
+        CHECK(rows[k].weak < 2 && rows[k].reserved == 0);
+    }
+    return count;
+}
+
+// Some pointers that a loader writes, and some imports, from a cursor on, in two batches.
+static void check_fixups(const struct held *held, struct kesvuot_fixup_cursor cursor) {
+    struct kesvuot_fixup rows[2 * FIXUPS + 1];
+    struct kesvuot_fixup_cursor next = cursor;
+    memset(rows, UNWRITTEN, sizeof rows);
+    size_t count = kesvuot_read_fixups(OF(held), &next, rows, FIXUPS);
+    const size_t more = kesvuot_read_fixups(OF(held), &next, rows + count, FIXUPS);
+    CHECK(count == FIXUPS || more == 0);
+    count += more;
+    CHECK(is_unwritten((const uint8_t *)&rows[count], sizeof *rows));
+    for (size_t k = 0; k < count; k++) {
+        check_fixup(&rows[k]);
+    }
+    const size_t imports = check_imports(held, &cursor);
+    CHECK(check_imports(held, &cursor) == 0 || imports == FIXUPS);
+}
+
+// The first pointers are in the bytes of their segments, and if linked accepts the file, each bind has its import.
+static void check_pointers(const struct held *held, const struct rows *all, uint32_t accepted) {
+    const struct kesvuot_segment *segments = all->rows;
+    struct kesvuot_fixup rows[FIXUPS];
+    struct kesvuot_fixup_cursor cursor = {0}, next = {0};
+    size_t imports = 0, count = FIXUPS;
+    for (size_t batch = 0; batch < BATCHES && count == FIXUPS; batch++) {
+        count = check_imports(held, &next);
+        imports += count;
+    }
+    const bool has_all = count < FIXUPS;
+    count = FIXUPS;
+    for (size_t batch = 0; batch < BATCHES && count == FIXUPS; batch++) {
+        count = kesvuot_read_fixups(OF(held), &cursor, rows, FIXUPS);
+        for (size_t k = 0; k < count; k++) {
+            CHECK(rows[k].segment < all->count);
+            const struct kesvuot_segment *segment = &segments[rows[k].segment];
+            CHECK(segment->bytes.size >= 8 && rows[k].offset <= segment->bytes.size - 8);
+            CHECK(rows[k].address == segment->vmaddr + rows[k].offset);
+            CHECK(accepted < KESVUOT_LINKED || !has_all || rows[k].kind == KESVUOT_REBASE || rows[k].import < imports);
         }
     }
 }
@@ -1046,6 +1111,7 @@ static void check_tables(const struct held *held, uint32_t accepted) {
         check_named(held, &all[SYMBOLS], k);
     }
     check_indirects(held, &all[INDIRECTS], accepted);
+    check_pointers(held, &all[SEGMENTS], accepted);
     if (accepted) {
         check_addresses(held, &all[SEGMENTS]);
         check_section_addresses(held, &all[SEGMENTS], &all[SECTIONS]);
@@ -1096,6 +1162,25 @@ static void check_any_nodes(const struct held *held, struct kesvuot_span trie, s
     check_any_edges(held, trie, cursor);
 }
 
+// A cursor of fixups with the numbers of another one.
+static struct kesvuot_fixup_cursor any_fixup_cursor(struct kesvuot_cursor cursor) {
+    return (struct kesvuot_fixup_cursor){
+        .stream = cursor.items,
+        .place = cursor.place,
+        .commands = cursor.commands,
+        .segment = cursor.segment,
+        .offset = cursor.place,
+        .page = cursor.items,
+        .left = cursor.segment,
+        .skip = cursor.place,
+        .name = cursor.place,
+        .name_size = cursor.items,
+        .import = cursor.items,
+        .has_segment = 1,
+        .has_name = 1,
+    };
+}
+
 static void check_any(const struct held *held, struct kesvuot_cursor cursor, size_t max) {
     struct kesvuot_span data;
     for (unsigned k = 0; k < TABLE_COUNT; k++) {
@@ -1131,6 +1216,8 @@ static void check_any(const struct held *held, struct kesvuot_cursor cursor, siz
     check_relocations(held, (uint32_t)cursor.place, (uint32_t)cursor.segment, cursor.items, REFUSED);
     check_code(held, cursor);
     check_code(held, (struct kesvuot_cursor){0});
+    check_fixups(held, any_fixup_cursor(cursor));
+    check_fixups(held, (struct kesvuot_fixup_cursor){0});
     check_blobs(held, cursor);
     check_blobs(held, (struct kesvuot_cursor){0});
     const struct kesvuot_span span = {cursor.place, cursor.items};
