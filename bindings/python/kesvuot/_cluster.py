@@ -11,6 +11,7 @@ from __future__ import annotations
 import logging
 import os
 import pickle
+import re
 import time
 import uuid
 from collections import deque
@@ -112,6 +113,9 @@ def judge_on_cluster(targets: Iterator[Target], choice: Choice, address: str, is
         from distributed import Client  # pylint: disable=import-outside-toplevel # an optional package
     except ImportError as error:
         raise ClusterError(f"--cluster needs the package distributed (Debian: python3-distributed): {error}") from error
+    # Dask waits for a minute where an address has another form, and then leaves a traceback.
+    if not re.fullmatch(r"(tcp|tls|ws|wss)://.+:\d+", address):
+        raise ClusterError(f"no scheduler at {address}: an address is like tcp://HOST:8786")
     # They would write of each connection that is lost or late.
     for name in ("distributed", "distributed.client", "asyncio", "tornado"):
         logging.getLogger(name).setLevel(logging.CRITICAL)
