@@ -397,8 +397,6 @@ static void check_pointers(const struct held *held, const struct rows *all, uint
 
 // Code signatures (kern/cs_blobs.h), whose numbers are big-endian
 
-#define CSMAGIC_CODEDIRECTORY 0xfade0c02u
-
 static uint32_t big_at(const uint8_t *bytes) {
     return (uint32_t)bytes[0] << 24 | (uint32_t)bytes[1] << 16 | (uint32_t)bytes[2] << 8 | bytes[3];
 }
@@ -450,7 +448,7 @@ static void check_directory(const struct held *held, const struct kesvuot_blob *
         return;
     }
     const uint8_t *bytes = bytes_at(held, blob->bytes);
-    CHECK(blob->bytes.size >= 44 && big_at(bytes) == CSMAGIC_CODEDIRECTORY && found.version >= 0x20000);
+    CHECK(blob->bytes.size >= 44 && big_at(bytes) == KESVUOT_CSMAGIC_CODEDIRECTORY && found.version >= 0x20000);
     CHECK(big_at(bytes + 8) == found.version && big_at(bytes + 12) == found.flags);
     CHECK(big_at(bytes + 24) == found.special_slots && big_at(bytes + 28) == found.code_slots);
     CHECK(bytes[36] == found.hash_size && bytes[37] == found.hash_type && bytes[39] == found.page_size);

@@ -52,7 +52,7 @@ func withChain(form uint32, pointers ...uint64) []byte {
 	}, string(table))
 }
 
-// withStreams returns one with LC_DYLD_INFO_ONLY (0x80000022) of these streams: rebases, binds, weak and lazy binds.
+// withStreams returns an image with LC_DYLD_INFO_ONLY (0x80000022) and streams of rebases, binds, weak and lazy binds.
 func withStreams(pointers []uint64, streams ...string) []byte {
 	return withTable(pointers, 0x80000022, func(place uint32) []uint32 {
 		numbers := make([]uint32, 0, 10)

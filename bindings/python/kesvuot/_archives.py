@@ -182,7 +182,7 @@ def _input(allowance: Allowance) -> Union[Archive, Begun, None]:
     if stat.S_ISREG(os.fstat(0).st_mode):
         archive = _archive_of("-", 0, os.lseek(0, 0, os.SEEK_CUR), allowance)
         if archive:
-            # Whoever reads it next is at its end.
+            # The next reader is at its end.
             os.lseek(0, 0, os.SEEK_END)
         return archive
     head = read_head(0)

@@ -23,7 +23,7 @@ from .constants import (
 STREAMS = (BIND, LAZY_BIND, WEAK_BIND)
 POINTER_TYPES = (
     S_NON_LAZY_SYMBOL_POINTERS, S_LAZY_SYMBOL_POINTERS, S_LAZY_DYLIB_SYMBOL_POINTERS, S_THREAD_LOCAL_VARIABLE_POINTERS)
-# The ordinals of symbols that say the same as those of ELSEWHERE.
+# The ordinals of symbols, and what ELSEWHERE has for the same library.
 OF_SYMBOLS = {EXECUTABLE_ORDINAL: -1, DYNAMIC_LOOKUP_ORDINAL: -2}
 
 

@@ -8,10 +8,12 @@ from typing import Any, Dict, Iterator, Tuple
 
 from ._files import Image
 from ._names import plain
-from .constants import CSSLOT_DER_ENTITLEMENTS, CSSLOT_ENTITLEMENTS
+from .constants import (
+    CSMAGIC_EMBEDDED_DER_ENTITLEMENTS, CSMAGIC_EMBEDDED_ENTITLEMENTS, CSSLOT_DER_ENTITLEMENTS, CSSLOT_ENTITLEMENTS)
 
-# CSMAGIC_EMBEDDED_ENTITLEMENTS and CSMAGIC_EMBEDDED_DER_ENTITLEMENTS (kern/cs_blobs.h), by the slots of the blobs.
-MAGICS = {CSSLOT_ENTITLEMENTS: 0xFADE7171, CSSLOT_DER_ENTITLEMENTS: 0xFADE7172}
+# The magic numbers of the blobs, by their slots.
+MAGICS = {CSSLOT_ENTITLEMENTS: CSMAGIC_EMBEDDED_ENTITLEMENTS,
+          CSSLOT_DER_ENTITLEMENTS: CSMAGIC_EMBEDDED_DER_ENTITLEMENTS}
 # The magic and the length of a blob.
 HEAD = 8
 # Longer ones are not read. Those of real programs have some kilobytes.

@@ -57,8 +57,10 @@ HASH_TYPES = {number: name[len("CS_HASHTYPE_"):].lower().replace("_", "-")
 
 # The flags of a code directory: the words of `codesign`.
 SIGNATURE_FLAGS = {
-    0x1: "host", 0x2: "adhoc", 0x100: "hard", 0x200: "kill", 0x400: "expires", 0x800: "restrict", 0x1000: "enforcement",
-    0x2000: "library-validation", 0x10000: "runtime", 0x20000: "linker-signed"}
+    0x1: "host", constants.CS_ADHOC: "adhoc", constants.CS_HARD: "hard", constants.CS_KILL: "kill",
+    constants.CS_CHECK_EXPIRATION: "expires", constants.CS_RESTRICT: "restrict",
+    constants.CS_ENFORCEMENT: "enforcement", constants.CS_REQUIRE_LV: "library-validation",
+    constants.CS_RUNTIME: "runtime", constants.CS_LINKER_SIGNED: "linker-signed"}
 
 # VM_PROT_READ, VM_PROT_WRITE and VM_PROT_EXECUTE.
 PROTECTIONS = ("read", "write", "execute")

@@ -114,5 +114,5 @@ def end_by(number: int) -> NoReturn:
     """Ends this process by a signal, as it ends one that does nothing about it: nothing more is written."""
     signal.signal(number, signal.SIG_DFL)
     os.kill(os.getpid(), number)
-    # Whoever has started the process has blocked the signal. This is the status that a shell has for it.
+    # The parent process has blocked the signal. A shell has this status for it.
     os._exit(128 + number)  # pylint: disable=protected-access

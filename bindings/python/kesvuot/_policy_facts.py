@@ -18,8 +18,6 @@ from .constants import (
 # The types of the debugging entries for a source and for an object file, and of the entry that strip(1) of the system
 # adds (mach-o/stab.h).
 N_SO, N_OSO, N_OPT = 0x64, 0x66, 0x3C
-# The flag of a code directory for the hardened runtime (kern/cs_blobs.h).
-CS_RUNTIME = 0x10000
 # The commands that have an export trie.
 TRIES = (LC_DYLD_INFO, LC_DYLD_INFO_ONLY, LC_DYLD_EXPORTS_TRIE)
 # So many names are told of a longer list, so many if they are those of symbols, and so many letters of a longer name.

@@ -9,11 +9,10 @@ from . import _policy_values as values
 from ._entitlements import Unreadable
 from ._files import File, Slice
 from ._names import HASH_TYPES, PLATFORMS, count_text, hash_type_name, platform_name, version_text
-from ._policy_facts import (
-    CS_RUNTIME, MOST_NAMES, MOST_SYMBOLS, Facts, TooMany, architecture, listed, quoted, text_of)
+from ._policy_facts import MOST_NAMES, MOST_SYMBOLS, Facts, TooMany, architecture, listed, quoted, text_of
 from ._policy_values import Patterns, any_of
 from ._rows import Build, CodeDirectory
-from .constants import MH_DYLIB, MH_EXECUTE, MH_PIE
+from .constants import CS_RUNTIME, MH_DYLIB, MH_EXECUTE, MH_PIE
 
 # The value of a policy that a file meets, by the file and the facts of its images. None if there is not any.
 Meets = Callable[[File, List[Facts]], Any]

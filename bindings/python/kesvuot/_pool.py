@@ -26,7 +26,7 @@ Result = TypeVar("Result")
 PR_SET_PDEATHSIG = 1
 # How many items a process gets at once. The first ones get one each: there may be few, and large.
 BATCH = 16
-# Items of so many bytes are no longer sent, nor are more together.
+# Items of so many bytes are no longer sent, alone or together.
 HEAVY = 1 << 20
 # So many tasks each process has: one that it does, and one that waits.
 TASKS_EACH = 2

@@ -82,7 +82,7 @@ class Pages:
     """Where the pages of the rules are: their folder, as a URI that the user gives, or else that of the installation or
     the repository that the package is in. Where they are not, a link has the name of the page."""
 
-    # The folders, from that of the package or of the installation.
+    # The folders, from the folder of the installation or of the package.
     OF_INSTALLATION, OF_REPOSITORY = "share/doc/kesvuot/rules", "../../../docs/rules"
 
     def __init__(self) -> None:

@@ -9,9 +9,9 @@ from ._explanation import Part as FilePart
 from ._names import HASH_TYPES, count_text
 from ._structures import DIRECTORY_SIZES, directory_size, number_in
 from ._teller import Story, Teller
+from .constants import CSMAGIC_CODEDIRECTORY, CSMAGIC_EMBEDDED_SIGNATURE
 
 SUPERBLOB_SIZE, ENTRY_SIZE, DIRECTORY_SIZE = 12, 8, 44
-CSMAGIC_EMBEDDED_SIGNATURE, CSMAGIC_CODEDIRECTORY = 0xFADE_0CC0, 0xFADE_0C02
 # The bytes of a hash, by its type.
 HASH_SIZES = {1: 20, 2: 32, 3: 20, 4: 48}
 MOST_PAGE_SIZE = 31

@@ -202,7 +202,7 @@ def _unxz(_packed: Stream) -> Any:
     return lzma.LZMADecompressor(lzma.FORMAT_XZ, memlimit=MOST_MEMORY)
 
 
-# What zip has before LZMA: a version, the size of the properties, and these.
+# Before LZMA zip has a version, the size of the properties, and the properties.
 LZMA_HEAD = struct.Struct("<2xHBI")
 
 
@@ -295,7 +295,7 @@ class Unpacking:
             return piece
         except MemoryError:
             raise
-        except Exception as error:  # zlib and lzma have an error of their own, and bz2 has that of the system
+        except Exception as error:  # zlib and lzma have their own errors, and bz2 an OSError
             raise Unread(f"its compressed data is broken: {error}") from error
 
 

@@ -16,7 +16,7 @@ MOST_DIGITS = 20
 NAME, SIZE, CHECKSUM, TYPE, MAGIC, PREFIX = (
     slice(0, 100), slice(124, 136), slice(148, 156), slice(156, 157), slice(257, 263), slice(345, 500))
 USTAR = b"ustar\0"
-# Where GNU's form says that a header of a sparse file goes on in a block: in the header, and in such a block.
+# The bytes that say, in GNU's form, that a sparse file has one more block of header: of the header, and of a block.
 MORE_SPARSE, MORE_OF_SPARSE = 482, 504
 HARD_LINK, FOLDER, SPARSE, PAX, PAX_FOR_ALL, LONG_NAME, LONG_LINK = b"1", b"5", b"S", b"x", b"g", b"L", b"K"
 # Hard and symbolic links, devices, folders and pipes have no data.

@@ -14,7 +14,7 @@ MEMBER, EMPTY = b"PK\3\4", b"PK\5\6"
 END, MOST_COMMENT = struct.Struct("<4s4H2LH"), 0xFFFF
 END_64, POINTER_64 = struct.Struct("<4sQ2H2L4Q"), struct.Struct("<4sLQL")
 END_64_BEGINNING, POINTER_64_BEGINNING = b"PK\6\6", b"PK\6\7"
-# What the directory has of a member, and what is before its data.
+# The entry of a member in the directory, and the header before its data.
 CENTRAL, LOCAL = struct.Struct("<4s4xHH4xL2L3H8xL"), struct.Struct("<4s2xHH4x12x2H")
 CENTRAL_BEGINNING = b"PK\1\2"
 EXTRA, WIDE_EXTRA = struct.Struct("<2H"), 1
