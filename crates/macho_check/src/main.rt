@@ -2,13 +2,6 @@
 //! `macho-check`: reads a file, and prints its layout, the rule of the layout that it breaks first, or
 //! what is at an address.
 
-#[cfg(test)]
-mod doubles;
-#[cfg(test)]
-mod notation;
-#[cfg(test)]
-mod tests;
-
 use macho_program::{MachoCheck, run_process};
 use std::process::ExitCode;
 
