@@ -4,7 +4,7 @@
 # can write to build/. A built program is copied to build/programs, so that it runs while rt ci has put out/ away.
 
 # take_program NAME: sets the paths of the program of a command, or of the library in both its forms, and of its record;
-# where rt leaves the program; and the words by which the program judges standard input.
+# where rt ci of the gate leaves the program; and the words by which the program judges standard input.
 take_program() {
     archive='' linking='' judging=''
     case $1 in

@@ -4,6 +4,8 @@ from __future__ import annotations
 
 import os
 import re
+import shutil
+import tempfile
 from pathlib import Path
 
 from .calling import TOP, Answer, call, shell
@@ -73,7 +75,11 @@ def build_trials() -> str:
     """Builds the program macho_trials where it is not there, or older than a source. Returns why it is not there."""
     if not is_older(MACHO_TRIALS):
         return ""
-    if MACHO_TRIALS.exists():
-        MACHO_TRIALS.unlink()
-    ran = call("rt", "run", folder=MACHO_TRIALS.parents[1])
-    return "" if os.access(MACHO_TRIALS, os.X_OK) else f"{MACHO_TRIALS} was not built: {ran.error[-2000:]}"
+    with tempfile.TemporaryDirectory(prefix="macho-check-tests.") as room:
+        copy = Path(room) / "copy"
+        ran = call(TOP / "packaging/prove", f"{room}/messages", "rt", copy, "macho_trials")
+        if ran.status:
+            return f"{MACHO_TRIALS} was not built: {ran.error[-2000:]}"
+        MACHO_TRIALS.parent.mkdir(exist_ok=True)
+        shutil.copy(copy / MACHO_TRIALS.relative_to(TOP), MACHO_TRIALS)
+    return ""
