@@ -1,9 +1,9 @@
 package kesvuot
 
-// A PartKind is what a Part is. The names of the kinds and what their indices count are those of kesvuot.h.
+// A PartKind says what a Part is. kesvuot.h explains each kind by its number, and what its index counts.
 type PartKind uint32
 
-// The kinds of parts. NoPart is the kind of a Part that is none, of which all other fields are 0 or NoIndex.
+// The kinds of parts. NoPart is the kind of an empty Part: its Index is NoIndex, and its other fields are 0.
 const (
 	// registry: parts
 	NoPart          PartKind = 0
@@ -48,13 +48,13 @@ const (
 	// registry: end
 )
 
-// NoIndex says that there is no index.
+// NoIndex stands for a missing index.
 const NoIndex = 1<<32 - 1
 
 // A Part is a structure, or what a structure describes. It lies where the file says, which can be past the file.
 type Part struct {
 	Kind PartKind
-	// Index is which one it is of its kind, or NoIndex.
+	// Index says which part of its kind it is, or is NoIndex.
 	Index uint32
 	// Start is its offset in the file; of memory its first address, and of a group its first index. Size is how many
 	// bytes, addresses or indices it has.
@@ -67,11 +67,12 @@ type Part struct {
 type Explanation struct {
 	// At is the structure that has the place, or the byte there. It lies in the file.
 	At Part
-	// First is what breaks the rule, and Second with what it conflicts or in which it should lie.
+	// First is what breaks the rule, and Second is what it conflicts with or should lie in.
 	First, Second Part
 	// Value and Limit are the numbers that the rule compares.
 	Value, Limit uint64
-	// Slice, Command, Section and Symbol are the indices of those that have the place, each or NoIndex.
+	// Slice, Command, Section and Symbol are the indices of the slice, the load command, the section and the symbol that
+	// have the place, or NoIndex.
 	Slice, Command, Section, Symbol uint32
 }
 

@@ -26,9 +26,9 @@ type waitingNode struct {
 }
 
 // Exports iterates over what the image exports, by a walk over the export trie. In a file that the linked profile
-// accepts these are all. In any other the walk ends before a node that does not end in the trie, or with which the
-// nodes that were met have more bytes than the trie, and it leaves out what is no export. There the names can be
-// together far longer than the trie: a program that keeps them adds up their sizes.
+// accepts, it finds all exports. In any other file, the walk ends before a node that does not end in the trie, or with
+// which the visited nodes have more bytes than the trie. There it leaves out a name whose export does not end in its
+// part of the node. Its names can be far longer together than the trie: a program that keeps them adds up their sizes.
 func (image *Image) Exports() *Exports {
 	trie, ok := findExportTrie(image)
 	exports := &Exports{image: image, trie: trie, left: uint64(trie.size)}
@@ -38,7 +38,7 @@ func (image *Image) Exports() *Exports {
 	return exports
 }
 
-// Next goes on to the next export. It returns false if there is none.
+// Next goes on to the next export. It returns false past the last one.
 func (exports *Exports) Next() bool {
 	for len(exports.waiting) > 0 {
 		last := len(exports.waiting) - 1

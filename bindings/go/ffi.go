@@ -45,8 +45,8 @@ func LibraryVersion() (major, minor, patch uint32) {
 	return version >> 16, version >> 8 & 0xff, version & 0xff
 }
 
-// atLeastOne returns the bytes, or one that is not read if there are none. What is passed to C has to be written as
-// &bytes[0] or &image.numbers in the call: then Go knows that C gets these alone, and not what lies beside them.
+// atLeastOne returns the bytes, or a byte that nobody reads if bytes is empty. Write an argument for C as &bytes[0] or
+// &image.numbers in the call: then Go knows that C gets only this memory, and not what lies beside it.
 func atLeastOne(bytes []byte) []byte {
 	if len(bytes) == 0 {
 		return make([]byte, 1)
@@ -54,7 +54,7 @@ func atLeastOne(bytes []byte) []byte {
 	return bytes
 }
 
-// checkVersion panics if the structures here are not those of the library.
+// checkVersion panics if the library has another major version, whose structures can differ from the ones here.
 func checkVersion() {
 	if found, _, _ := LibraryVersion(); found != major {
 		panic("kesvuot: the library has another major version")
@@ -283,12 +283,12 @@ func readRows[Row any](image *Image, table table, cursor *cursor, count uint64) 
 	return rows[:written]
 }
 
-// readTable returns all rows of a table, of which there are count.
+// readTable returns all rows of a table that has count rows.
 func readTable[Row any](image *Image, table table, count C.uint64_t) []Row {
 	return readRows[Row](image, table, new(cursor), uint64(count))
 }
 
-// How many rows are read at once, where nothing says how many there are. Batches of any size cost the same.
+// How many rows are read at once from a table whose length nothing says. Batches of any size cost the same.
 const batch = 256
 
 // readUncounted returns all rows of a table whose length nothing says.
@@ -391,7 +391,7 @@ func readThreadEntry(image *Image) (uint64, bool) {
 	return uint64(entry), status == C.KESVUOT_OK
 }
 
-// readDirectory returns what a blob of these bytes says as a code directory. Its spans lie in these bytes.
+// readDirectory reads the bytes of a blob as a code directory. The spans of the row lie in the blob.
 func readDirectory(blob []byte) (row directoryRow, ok bool) {
 	bytes, size := atLeastOne(blob), C.size_t(len(blob))
 	all := blobRow{bytes: span{size: C.uint64_t(len(blob))}}
@@ -399,7 +399,7 @@ func readDirectory(blob []byte) (row directoryRow, ok bool) {
 	return row, status == C.KESVUOT_OK
 }
 
-// readCDHash returns the hash of a blob of these bytes as a code directory.
+// readCDHash returns the hash of a blob that is a code directory.
 func readCDHash(blob []byte) (hash CDHash, ok bool) {
 	bytes, size := atLeastOne(blob), C.size_t(len(blob))
 	all := blobRow{bytes: span{size: C.uint64_t(len(blob))}}
@@ -429,8 +429,8 @@ func readAt(image *Image, address uint64) Source {
 // An indexEntry is the index of a symbol.
 type indexEntry = C.uint32_t
 
-// readIndex returns the indices of the symbols whose value is an address, by ascending addresses. There are none if the
-// bytes have changed so that there is no room.
+// readIndex returns the indices of the symbols whose value is an address, by ascending addresses. It returns nil if the
+// index does not fit, because the bytes have changed since the verdict.
 func readIndex(image *Image) []indexEntry {
 	room := C.size_t(image.numbers.symbol_count)
 	index := make([]indexEntry, room+1)
@@ -496,7 +496,8 @@ func readExportEdges(image *Image, trie span, node *exportNodeRow) (edges []expo
 	return edges, uint64(at.place), at.items == 0
 }
 
-// placeIn returns where a part of the bytes begins in them, and whether it is a part of them. One of no bytes is none.
+// placeIn returns where a part of the bytes begins in them, and whether it is a part of them. An empty part is never a
+// part of them.
 func placeIn(bytes, part []byte) (uint64, bool) {
 	if len(part) == 0 || len(bytes) == 0 {
 		return 0, false

@@ -12,9 +12,9 @@ type Fixup struct {
 	IsBind bool
 	// Target is that address of the image, before any slide. A bind has 0.
 	Target uint64
-	// Import is the index in Imports of what is bound, and Addend is all that is added to the address that is found,
-	// with the addend of the import. Both are 0 if there is no bind. In a file that the linked profile refuses, Import
-	// can be past the last of Imports: test it.
+	// Import is the index in Imports of what is bound, and Addend is all that is added to the address that is found, with
+	// the addend of the import. Both are 0 unless IsBind. In a file that the linked profile refuses, Import can be past
+	// the last of Imports: test it.
 	Import uint64
 	Addend int64
 	// Authentication says how the pointer is signed. It is nil if it is not.
@@ -69,7 +69,7 @@ type Fixups struct {
 // index of an import can be past the last.
 func (image *Image) Fixups() *Fixups { return &Fixups{image: image} }
 
-// Next goes on to the next pointer. It returns false if there is none.
+// Next goes on to the next pointer. It returns false past the last one.
 func (fixups *Fixups) Next() bool {
 	if len(fixups.rows) == 0 && !fixups.isLast {
 		fixups.rows = readFixups(fixups.image, &fixups.cursor, batch)

@@ -10,7 +10,7 @@ import (
 //
 // Each call for a table reads the whole table: keep what it returns. A Symbol is also found by its index.
 type Image struct {
-	// Bytes are those of the image.
+	// Bytes are all bytes of the image.
 	Bytes []byte
 	// Place is where the image begins in the file: 0 exactly if the file is not universal.
 	Place uint64
@@ -47,7 +47,7 @@ func (image *Image) has(part uint32) bool { return uint32(image.numbers.has)&par
 // Arch returns the name of the architecture, such as "arm64e", as ArchName has it.
 func (image *Image) Arch() string { return ArchName(image.CPUType, image.CPUSubtype) }
 
-// A UUID is that of an LC_UUID.
+// A UUID is the uuid field of an LC_UUID.
 type UUID [16]byte
 
 // String returns the digits in groups, as in "4C4C4435-5555-3144-A1CE-E5F04E5E6C2C".
@@ -84,10 +84,10 @@ func (image *Image) Entry() (address uint64, ok bool) {
 	return uint64(image.numbers.entry), image.has(hasEntry)
 }
 
-// ThreadEntry returns the address at which the first LC_THREAD or LC_UNIXTHREAD begins, such as that of a program that
-// Go links. It is not ok if there is no such command, its registers are not known, or the file has no byte that can be
-// executed at the address. In a file that the linked profile accepts each image with such a command has the address.
-// Each call rescans the load commands.
+// ThreadEntry returns the address at which the first LC_THREAD or LC_UNIXTHREAD begins, such as the entry of a program
+// that Go links. It is not ok if the image has no such command, if the registers of the command are not known, or if
+// the file has no byte that can be executed at the address. In a file that the linked profile accepts, each image with
+// an LC_THREAD or LC_UNIXTHREAD has the address. Each call rescans the load commands.
 func (image *Image) ThreadEntry() (address uint64, ok bool) {
 	return readThreadEntry(image)
 }
@@ -160,8 +160,8 @@ func (kind SourceKind) String() string {
 	}
 }
 
-// A Source is what is at an address. Bytes are those from the address to the end of what its segment has in the file,
-// and there are none unless Kind is FileBytes.
+// A Source is what is at an address. Bytes are the bytes from the address to the end of what its segment has in the
+// file. They are empty unless Kind is FileBytes.
 type Source struct {
 	Kind  SourceKind
 	Bytes []byte
@@ -260,7 +260,7 @@ func (image *Image) namesOf(cmd uint32) [][]byte {
 }
 
 // PlaceOf returns the offset in the file at which a part of the image begins, such as a name. It is not ok if the bytes
-// are from elsewhere, or there are none.
+// are from elsewhere, or part is empty.
 func (image *Image) PlaceOf(part []byte) (place uint64, ok bool) {
 	place, ok = placeIn(image.Bytes, part)
 	return image.Place + place, ok

@@ -16,9 +16,10 @@
 // for a row, such as Name.
 //
 // The verdict and all parts come from libkesvuot, whose calls are proved. The bytes of each part of an accepted file
-// lie in the bytes that were passed: test no part. They are slices of those bytes, and nothing is copied.
+// lie in the bytes that were passed: test no part. Each part is a slice of the passed bytes, and nothing is copied.
 // Numbers that rules/layout.md lists as not judged, and the fields of commands that it does not list, are whatever the
-// file says. Names and fields are those of <mach-o/loader.h> and <mach-o/nlist.h>. A name contains no zero byte.
+// file says. <mach-o/loader.h> and <mach-o/nlist.h> have the names and explain the fields. A name contains no zero
+// byte.
 //
 // The bytes must not change while a call runs, or the process may crash: no goroutine may write to them, and a file may
 // be mapped only if nobody else can write to it or truncate it. If they change after the verdict, every call is still
@@ -41,7 +42,7 @@ import (
 	"os"
 )
 
-// ErrMemory says that memory ran out. There is no verdict, and nothing is claimed about the file.
+// ErrMemory says that memory ran out before a verdict. Nothing is claimed about the file.
 var ErrMemory = errors.New("out of memory")
 
 // ErrProfile says that no profile has the number that Verify got. The file is not judged.
@@ -114,7 +115,7 @@ func VerifyFile(path string, profile Profile) (*File, error) {
 	return Verify(data, profile)
 }
 
-// readFile returns the bytes of a regular file, of which there are no more than the limit.
+// readFile returns the bytes of a regular file that has at most limit bytes.
 func readFile(path string, limit int64) ([]byte, error) {
 	// To open a pipe would wait for its writer, and to open a device may do something.
 	known, err := os.Stat(path)
@@ -158,7 +159,7 @@ func (file *File) SliceCount() int { return file.sliceCount }
 
 // A Slice is a part of a universal file, or a whole file that is not universal.
 type Slice struct {
-	// Bytes are those of the slice.
+	// Bytes are all bytes of the slice.
 	Bytes []byte
 	// Place is where the slice begins in the file: 0 exactly if the file is not universal.
 	Place uint64
@@ -173,7 +174,7 @@ type Slice struct {
 func (slice Slice) Arch() string { return ArchName(slice.CPUType, slice.CPUSubtype) }
 
 // Slice returns the slice with this index, from 0 on, in the order of the universal table. The time does not depend on
-// the number of slices. It panics if there is no such slice.
+// the number of slices. It panics if no slice has the index.
 func (file *File) Slice(index int) Slice {
 	if index < 0 || index >= file.sliceCount {
 		panic(fmt.Sprintf("kesvuot: slice %d of %d", index, file.sliceCount))

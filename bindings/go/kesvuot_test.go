@@ -421,7 +421,7 @@ func compareLookups(t *testing.T, image *Image) {
 	same(t, "no name", ok, false)
 }
 
-// The symbols of the real files have names of their own, and none is a debugging entry.
+// No two symbols of an image in the real files have one name, and no symbol there is a debugging entry.
 func TestLookups(t *testing.T) {
 	for _, name := range []string{"program", "library"} {
 		for _, image := range verified(t, readReal(t, name)).Images() {
@@ -505,7 +505,7 @@ var bounded = []struct {
 	{ExportTable, [2]uint32{0x22, 0x80000022}, 40, 1}, {EncryptedTable, [2]uint32{0x2c, 0x2c}, 8, 1},
 }
 
-// compareTables compares each table with what the fields of the first of its commands say, and the others are none.
+// compareTables compares each table with the fields of the first command that has it. Other numbers name no table.
 func compareTables(t *testing.T, image *Image) {
 	t.Helper()
 	for _, wanted := range bounded {
@@ -538,7 +538,7 @@ func words(numbers ...uint32) []byte {
 	return file.Bytes()
 }
 
-// An executable of LC_SEGMENT_64 with two empty sections, LC_SYMTAB, and symbols of these types and sections.
+// An executable of LC_SEGMENT_64 with two empty sections, LC_SYMTAB, and symbols with the given types and sections.
 func withSections(symbols ...[2]uint8) []byte {
 	file := words(0xfeedfacf, 0x01000007, 3, 2, 2, 232+24, 0, 0, 0x19, 232)
 	file = append(file, words(append(make([]uint32, 14), 2, 0)...)...)
@@ -567,8 +567,8 @@ func TestSectionsOfSymbols(t *testing.T) {
 	same(t, "the sections", found, wanted)
 }
 
-// An executable of these flags of the header, of LC_SYMTAB, of a symbol of this type, description and value, and of
-// the strings "_a" from 1 and "_b" from 4 on.
+// An executable with the given flags in its header, LC_SYMTAB, a symbol with the given type, description and value, and
+// the strings "_a" at 1 and "_b" at 4.
 func withSymbol(flags uint32, kind uint8, desc uint16, value uint64) []byte {
 	file := words(0xfeedfacf, 0x01000007, 3, 2, 1, 24, flags, 0, 2, 24, 56, 1, 72, 7, 1)
 	file = append(file, kind, 0, byte(desc), byte(desc>>8))
@@ -678,7 +678,7 @@ func TestRelocations(t *testing.T) {
 	same(t, "no relocations", len(image.Relocations(&section)), 0)
 }
 
-// An executable with LC_FUNCTION_STARTS (0x26) of these numbers, and LC_DATA_IN_CODE (0x29) of these entries.
+// An executable with the given numbers in LC_FUNCTION_STARTS (0x26), and the given entries in LC_DATA_IN_CODE (0x29).
 func withCode(numbers []byte, entries []byte) []byte {
 	const place = 136
 	file := words(0xfeedfacf, 0x01000007, 3, 2, 3, 104, 0, 0,

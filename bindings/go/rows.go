@@ -44,9 +44,9 @@ func (image *Image) Segments() []Segment {
 
 // A Section is a section_64.
 type Section struct {
-	// Name is the name, such as "__text", and Segment that of its segment.
+	// Name is the name of the section, such as "__text", and Segment the name of its segment.
 	Name, Segment []byte
-	// Bytes are all Size bytes from Offset on. There are none if it is ZeroFill.
+	// Bytes are all Size bytes from Offset on, or empty if the section is ZeroFill.
 	Bytes      []byte
 	Addr, Size uint64
 	// Offset is any number if Size is 0 or it is ZeroFill.
@@ -91,7 +91,7 @@ type Library struct {
 }
 
 // Libraries returns the libraries that the image loads, in command order: each LC_LOAD_DYLIB, LC_LOAD_WEAK_DYLIB,
-// LC_REEXPORT_DYLIB, LC_LAZY_LOAD_DYLIB and LC_LOAD_UPWARD_DYLIB. What it is itself is ID.
+// LC_REEXPORT_DYLIB, LC_LAZY_LOAD_DYLIB and LC_LOAD_UPWARD_DYLIB. The image's own LC_ID_DYLIB is in ID.
 func (image *Image) Libraries() []Library {
 	rows := readTable[libraryRow](image, libraryTable, image.numbers.library_count)
 	libraries := make([]Library, len(rows))
@@ -107,8 +107,8 @@ func (image *Image) newLibrary(row *libraryRow) Library {
 
 // A Build is an LC_BUILD_VERSION, or a command that names the least version of a platform, by its Cmd:
 // LC_VERSION_MIN_MACOSX (0x24), LC_VERSION_MIN_IPHONEOS (0x25), LC_VERSION_MIN_TVOS (0x2f) or LC_VERSION_MIN_WATCHOS
-// (0x30). The platform of the last three is that of the device, also in an image for its simulator. Minos and SDK are
-// versions X.Y.Z: X << 16 | Y << 8 | Z.
+// (0x30). In the last three Platform names the device, also in an image for its simulator. Minos and SDK are versions
+// X.Y.Z: X << 16 | Y << 8 | Z.
 type Build struct {
 	Platform, Minos, SDK, Cmd uint32
 }
@@ -128,7 +128,7 @@ func (image *Image) Builds() []Build {
 type Command struct {
 	// Bytes are all cmdsize bytes.
 	Bytes []byte
-	// Name is that of a library, a run path or a dynamic linker. In all other commands it is empty.
+	// Name is the name of a library, a run path or a dynamic linker. In all other commands it is empty.
 	Name []byte
 	// Place is where the command begins in the image.
 	Place uint64
@@ -181,19 +181,19 @@ func (image *Image) Relocations(section *Section) []Relocation {
 
 // A DataInCode is a data_in_code_entry. The linked profile judges its fields.
 type DataInCode struct {
-	// Bytes are the data. There are none if it does not all lie in the image.
+	// Bytes are the data, or empty if it does not all lie in the image.
 	Bytes []byte
 	// Offset is where the data begins in the image, and Length its size.
 	Offset uint32
 	Length uint16
-	// Kind is DICE_KIND_DATA or another of these constants, or any other number.
+	// Kind is a DICE_KIND constant, such as DICE_KIND_DATA, or any other number.
 	Kind uint16
 }
 
-// FunctionStarts returns the addresses of functions, before any slide, by the first LC_FUNCTION_STARTS. They ascend, and
-// end before a number 0 of its data, a number that does not end in it, and an address of 2^64 or more. There are none if
-// the image has no base. In a file that the linked profile accepts each is the address of a byte of the file. In any
-// other one can be in no segment.
+// FunctionStarts returns the addresses of functions, before any slide, by the first LC_FUNCTION_STARTS. They ascend,
+// and end before a number 0 of its data, a number that does not end in it, and an address of 2^64 or more. An image
+// without a base has no starts. In a file that the linked profile accepts, each start is the address of a byte of the
+// file. In any other file a start can be in no segment.
 func (image *Image) FunctionStarts() []uint64 {
 	rows := readUncounted[functionStartRow](image, functionStartTable)
 	starts := make([]uint64, len(rows))
@@ -223,7 +223,7 @@ type Export struct {
 	// Address is one before any slide, and can be in no segment. It is 0 of a re-export (EXPORT_SYMBOL_FLAGS_REEXPORT).
 	Address uint64
 	// Resolver is the address of the function that finds the one to call, if the flags have
-	// EXPORT_SYMBOL_FLAGS_STUB_AND_RESOLVER. Address is then that of a stub. It is 0 of all others.
+	// EXPORT_SYMBOL_FLAGS_STUB_AND_RESOLVER. Address is then the address of a stub. Resolver is 0 in all other exports.
 	Resolver uint64
 	// Ordinal is which of the Libraries has the symbol of a re-export, counted from 1 on, or any other number. It is 0 of
 	// all others.
@@ -232,9 +232,10 @@ type Export struct {
 	Name []byte
 }
 
-// FindExport returns what the image exports under this name, as a dynamic loader looks it up in the export trie: that of
-// LC_DYLD_EXPORTS_TRIE, or of LC_DYLD_INFO or LC_DYLD_INFO_ONLY. It is not ok if there is none, or if the bytes on the
-// way to it are no trie, which only the linked profile judges. Each call rescans the load commands.
+// FindExport returns what the image exports under this name, as a dynamic loader looks it up in the export trie of
+// LC_DYLD_EXPORTS_TRIE, LC_DYLD_INFO or LC_DYLD_INFO_ONLY. It is not ok if the image does not export the name, or if
+// the bytes on the way to it are not a well-formed trie. Only the linked profile judges the trie. Each call rescans the
+// load commands.
 func (image *Image) FindExport(name string) (export Export, ok bool) {
 	row, ok := findExport(image, name)
 	if !ok {

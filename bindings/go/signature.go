@@ -6,15 +6,15 @@ import "encoding/hex"
 type Blob struct {
 	// Bytes are the whole blob, with its magic and its length. What it holds begins after these 8 bytes.
 	Bytes []byte
-	// Slot is the type of its entry: CSSLOT_CODEDIRECTORY or another of these constants, or any other number.
+	// Slot is the type of its entry: a CSSLOT constant, such as CSSLOT_CODEDIRECTORY, or any other number.
 	Slot uint32
-	// Magic is CSMAGIC_CODEDIRECTORY (0xfade0c02) or another of these, or any other number.
+	// Magic is a CSMAGIC constant, such as CSMAGIC_CODEDIRECTORY (0xfade0c02), or any other number.
 	Magic uint32
 }
 
 // Blobs returns the blobs of the code signature, by the first LC_CODE_SIGNATURE, in the order of its index. Each lies
-// past the one before it. They end before the first of which this does not hold. There are none if the data is no
-// superblob. In a file that the linked profile accepts these are all.
+// past the blob before it, and the list ends before the first blob that does not. It is empty if the data is not a
+// superblob. In a file that the linked profile accepts, the list has every blob of the index.
 //
 // The entitlements are the blobs of the slots 5 (a property list) and 7 (DER), past their first 8 bytes:
 //
@@ -39,13 +39,14 @@ func (image *Image) Blobs() []Blob {
 type CodeDirectory struct {
 	// Bytes are the whole blob, with its magic and its length.
 	Bytes []byte
-	// Identifier is the name of what was signed, and Team who signed it, without the zero byte past them. Each is empty
-	// if there is none. Only versions from 0x20200 on have a Team.
+	// Identifier is the name of what was signed, and Team is the team that signed it, both without the zero byte that ends
+	// them. Each is empty if its offset is 0, or no zero byte ends it. Only versions from 0x20200 on have a Team.
 	Identifier, Team []byte
-	// Hashes are those of the code, one for each page, each of HashSize bytes. They are empty if they pass the blob.
+	// Hashes are the hashes of the code, one for each page, each of HashSize bytes. They are empty if they do not all lie
+	// in the blob.
 	Hashes []byte
-	// SpecialHashes are of HashSize bytes too. That of the special slot 1 is the last. They are empty if they pass the
-	// blob.
+	// SpecialHashes are of HashSize bytes too. The hash of special slot 1 is the last. They are empty if they do not all
+	// lie in the blob.
 	SpecialHashes []byte
 	// Limit is how many bytes of the image are hashed, from its start on: codeLimit64, or codeLimit if that is 0 or not
 	// there.
@@ -54,7 +55,7 @@ type CodeDirectory struct {
 	Version, Flags uint32
 	// CodeSlots is how many hashes of the code there are, and SpecialSlots how many special ones.
 	CodeSlots, SpecialSlots uint32
-	// HashSize is in bytes, and any number. HashType is CS_HASHTYPE_SHA256 or another of these constants, or any other
+	// HashSize is in bytes, and any number. HashType is a CS_HASHTYPE constant, such as CS_HASHTYPE_SHA256, or any other
 	// number.
 	HashSize, HashType uint8
 	// PageSize is the log2 of the size of a page in bytes. With 0 one page has all bytes.

@@ -34,7 +34,7 @@ func madeSignature() []byte {
 	}, nil)
 }
 
-// An executable with LC_CODE_SIGNATURE (0x1d) of these bytes.
+// An executable with LC_CODE_SIGNATURE (0x1d), whose data is the signature.
 func withSignature(signature []byte) []byte {
 	const place = 48
 	file := words(0xfeedfacf, 0x01000007, 3, 2, 1, 16, 0, 0, 0x1d, 16, place, uint32(len(signature)))
@@ -74,7 +74,7 @@ func TestBlobs(t *testing.T) {
 	}
 }
 
-// hashOf returns the hash of a blob by a type of hashes, or nothing if there is no such type.
+// hashOf returns the hash of a blob by a type of hashes, or nil for an unknown type.
 func hashOf(blob []byte, kind byte) []byte {
 	switch kind {
 	case CS_HASHTYPE_SHA1:
