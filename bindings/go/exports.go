@@ -26,7 +26,7 @@ type waitingNode struct {
 }
 
 // Exports iterates over what the image exports, by a walk over the export trie. In a file that the linked profile
-// accepts, it finds all exports. In any other file, the walk ends before a node that does not end in the trie, or with
+// accepts, the walk finds all exports. In any other file, it ends before a node that does not end in the trie, or with
 // which the visited nodes have more bytes than the trie. There it leaves out a name whose export does not end in its
 // part of the node. Its names can be far longer together than the trie: a program that keeps them adds up their sizes.
 func (image *Image) Exports() *Exports {

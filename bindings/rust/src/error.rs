@@ -15,7 +15,7 @@ pub enum Error {
         /// The least offset in the file at which the rule is broken.
         place: u64,
     },
-    /// Memory ran out. There is no verdict: nothing is claimed about the file.
+    /// Memory ran out before a verdict. Nothing is claimed about the file.
     NoMemory,
 }
 

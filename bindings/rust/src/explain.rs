@@ -14,7 +14,7 @@ macro_rules! kinds {
         }
 
         impl PartKind {
-            /// The kind with this number, `KESVUOT_PART_..`. 0 is no part.
+            /// The kind with this number, `KESVUOT_PART_..`. `None` for 0, which stands for a missing part.
             fn from_number(number: u32) -> Option<PartKind> {
                 match number {
                     0 => None,
@@ -119,9 +119,9 @@ kinds! {
 #[derive(Clone, Copy, Debug, PartialEq, Eq, Hash)]
 #[non_exhaustive]
 pub struct Part {
-    /// What it is.
+    /// The kind of part.
     pub kind: PartKind,
-    /// Which one it is of its kind.
+    /// Which part of its kind it is.
     pub index: Option<u32>,
     /// Its offset in the file; of memory its first address, and of a group its first index.
     pub start: u64,
@@ -151,11 +151,11 @@ pub struct Explanation {
     pub at: Option<Part>,
     /// What breaks the rule.
     pub first: Option<Part>,
-    /// With which it conflicts, or in which it should lie.
+    /// What the first part conflicts with, or should lie in.
     pub second: Option<Part>,
     /// The first of the two numbers that the rule compares.
     pub value: u64,
-    /// The other one.
+    /// The second of the two numbers.
     pub limit: u64,
     /// The index of the slice that has the place, or whose entry is there.
     pub slice: Option<u32>,
@@ -167,9 +167,9 @@ pub struct Explanation {
     pub symbol: Option<u32>,
 }
 
-/// Explains a refusal of these bytes, as [`Error::Refused`](crate::Error::Refused) has it. The file is
-/// not judged again. `None` if it is not a refusal of these bytes, as far as that is seen: no rule has
-/// the number, or nothing that the rule is about is at the place.
+/// Explains a refusal of `file`, as [`Error::Refused`](crate::Error::Refused) has it. The file is not
+/// judged again. `None` if the call sees that other bytes were refused: no rule has the number, or
+/// nothing that the rule is about is at the place.
 ///
 /// ```
 /// use kesvuot::{Error, PartKind, Profile};

@@ -13,9 +13,8 @@ const MOST_EDGES: usize = 255;
 
 /// The exports of an image with their names, in the order in which a walk over the export trie meets them.
 ///
-/// The names are no texts: they are any bytes but zeros. A trie that shares the beginnings of its names can have
-/// names that are together far longer than itself. So a program that keeps those of a hostile file adds up their
-/// sizes.
+/// A name is any bytes except zeros, and need not be UTF-8. Names in a trie can share their beginnings, so all names
+/// together can be far longer than the trie: a program that keeps the names of a hostile file adds up their sizes.
 #[derive(Clone)]
 pub struct Exports<'a> {
     image: Image<'a>,

@@ -518,7 +518,7 @@ fn name_by(call: impl FnOnce(&mut Text) -> u32) -> Option<&'static str> {
     str::from_utf8(bytes).ok()
 }
 
-/// The name of the rule with this number. `None` if there is no such rule.
+/// The name of the rule with this number. `None` if no rule has the number.
 pub fn rule(number: u32) -> Option<&'static str> {
     // SAFETY: the name may be written.
     name_by(|name| unsafe { kesvuot_find_rule(number, name) })
@@ -565,7 +565,7 @@ pub fn arch_named(name: &[u8]) -> (u32, (u32, u32)) {
 /// Room for the layout of most files. A longer one takes a second call.
 const LAYOUT_ROOM: usize = 1 << 14;
 
-/// The structures here are those of a library of this major version.
+/// Panics if the library has another major version, whose structures can differ from the ones here.
 fn check_version() {
     let version = version();
     assert_eq!(version >> 16, MAJOR, "libkesvuot has version {version:#x}");
@@ -688,7 +688,7 @@ pub fn symbol_name(file: &[u8], image: &Image, strx: u32) -> (u32, Span) {
     (status, name)
 }
 
-/// Where the names of these symbols are.
+/// Where the names of symbols lie in the file.
 pub fn read_names(file: &[u8], image: &Image, symbols: &[Symbol]) -> Vec<Span> {
     let mut names = vec![Span::default(); symbols.len()];
     let (at, rows, to) = (file.as_ptr().cast(), symbols.as_ptr(), names.as_mut_ptr());
@@ -730,7 +730,7 @@ pub fn find_thread_entry(file: &[u8], image: &Image) -> (u32, u64) {
     (status, entry)
 }
 
-/// A blob that is all of these bytes.
+/// A blob with all the bytes.
 fn blob_of(bytes: &[u8]) -> Blob {
     let all = Span {
         offset: 0,
@@ -742,7 +742,7 @@ fn blob_of(bytes: &[u8]) -> Blob {
     }
 }
 
-/// The status, and what a blob of these bytes says as a code directory. Its spans lie in these bytes.
+/// The status, and the bytes read as a code directory. Its spans lie in the bytes.
 pub fn read_code_directory(bytes: &[u8]) -> (u32, CodeDirectory) {
     let (at, mut directory) = (bytes.as_ptr().cast(), CodeDirectory::default());
     let blob = blob_of(bytes);
@@ -751,7 +751,7 @@ pub fn read_code_directory(bytes: &[u8]) -> (u32, CodeDirectory) {
     (status, directory)
 }
 
-/// The status, and the hash of a blob of these bytes as a code directory.
+/// The status, and the hash of the bytes as a code directory.
 pub fn read_cdhash(bytes: &[u8]) -> (u32, CdHash) {
     let (at, mut cdhash) = (bytes.as_ptr().cast(), CdHash::default());
     let blob = blob_of(bytes);

@@ -16,9 +16,9 @@ const LIMIT: u64 = 1 << 32;
 #[derive(Debug)]
 #[non_exhaustive]
 pub enum FileError {
-    /// It was not read: it is not there, is no regular file or too long, or the system returned an error.
+    /// The file was not read: it is missing, is not a regular file, is too long, or the system returned an error.
     Unread(io::Error),
-    /// It was read, and the library does not accept it.
+    /// The file was read, and the library does not accept it.
     Judged(Error),
 }
 
@@ -78,7 +78,7 @@ pub fn verify_file(path: impl AsRef<Path>, profile: Profile) -> Result<VerifiedB
     Ok(VerifiedBuf::verify(bytes, profile)?)
 }
 
-/// The bytes of a regular file, of which there are no more than the limit.
+/// The bytes of a regular file that has at most `limit` bytes.
 fn read(path: &Path, limit: u64) -> io::Result<Vec<u8>> {
     // To open a pipe would wait for its writer, and to open a device may do something.
     check(&fs::metadata(path)?, limit)?;

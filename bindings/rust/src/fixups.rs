@@ -71,7 +71,7 @@ impl<'a> Row<'a> for Fixup {
     }
 }
 
-/// What pointers are bound to. Only the linked profile judges it.
+/// A symbol that pointers are bound to. Only the linked profile judges it.
 #[derive(Clone, Copy, Debug, PartialEq, Eq)]
 #[non_exhaustive]
 pub struct Import<'a> {
@@ -80,7 +80,7 @@ pub struct Import<'a> {
     /// The library that has it, from 1 on in the order of [`Image::libraries`]. 0 is the image itself, -1 the program,
     /// -2 all images in their order, and -3 all images, whose weak definitions count as one.
     pub library: i64,
-    /// What is added to the address that is found.
+    /// A number that is added to the address of the symbol.
     pub addend: i64,
     /// Whether the name need not be found.
     pub is_weak: bool,

@@ -158,7 +158,7 @@ impl<'a> Image<'a> {
         self.has(ffi::HAS_UUID).then_some(self.raw.uuid)
     }
 
-    /// What the image is as a library, by its `LC_ID_DYLIB`, if there is one.
+    /// The library that the image is, by its `LC_ID_DYLIB`. `None` without that command.
     #[must_use]
     pub fn id(&self) -> Option<Library<'a>> {
         self.has(ffi::HAS_ID)
@@ -179,10 +179,11 @@ impl<'a> Image<'a> {
         self.has(ffi::HAS_ENTRY).then_some(self.raw.entry)
     }
 
-    /// The address at which the first `LC_THREAD` or `LC_UNIXTHREAD` begins, before any slide, such as that
-    /// of a program that Go links. `None` if there is no such command, its registers are not known, or the file
-    /// has no byte that can be executed at the address. In a file that
-    /// [`Profile::Linked`](crate::Profile::Linked) accepts each image with such a command has the address.
+    /// The address at which the first `LC_THREAD` or `LC_UNIXTHREAD` begins, before any slide, such as the entry of a
+    /// program that Go links. `None` if the image has no such command, if the registers of the command are not known,
+    /// or if the file has no byte that can be executed at the address. In a file that
+    /// [`Profile::Linked`](crate::Profile::Linked) accepts, each image with an `LC_THREAD` or `LC_UNIXTHREAD` has the
+    /// address.
     ///
     /// Each call rescans the load commands.
     ///
@@ -265,7 +266,7 @@ impl<'a> Image<'a> {
     }
 
     /// The libraries that the image loads, in command order: each `LC_LOAD_DYLIB`, `LC_LOAD_WEAK_DYLIB`,
-    /// `LC_REEXPORT_DYLIB`, `LC_LAZY_LOAD_DYLIB` and `LC_LOAD_UPWARD_DYLIB`. What it is itself is
+    /// `LC_REEXPORT_DYLIB`, `LC_LAZY_LOAD_DYLIB` and `LC_LOAD_UPWARD_DYLIB`. The image's own `LC_ID_DYLIB` is in
     /// [`id`](Image::id).
     #[must_use]
     pub fn libraries(&self) -> Rows<'a, Library<'a>> {
@@ -331,19 +332,19 @@ impl<'a> Image<'a> {
         (status == ffi::OK).then(|| self.part(name))
     }
 
-    /// The local symbols. There are none without `LC_DYSYMTAB`.
+    /// The local symbols. Empty without `LC_DYSYMTAB`.
     #[must_use]
     pub fn local_symbols(&self) -> Rows<'a, Symbol> {
         self.symbol_group(0)
     }
 
-    /// The defined external symbols. There are none without `LC_DYSYMTAB`.
+    /// The defined external symbols. Empty without `LC_DYSYMTAB`.
     #[must_use]
     pub fn defined_symbols(&self) -> Rows<'a, Symbol> {
         self.symbol_group(2)
     }
 
-    /// The undefined symbols. There are none without `LC_DYSYMTAB`.
+    /// The undefined symbols. Empty without `LC_DYSYMTAB`.
     #[must_use]
     pub fn undefined_symbols(&self) -> Rows<'a, Symbol> {
         self.symbol_group(4)
@@ -362,8 +363,8 @@ impl<'a> Image<'a> {
         self.row(index)
     }
 
-    /// The first symbol in the table with this name, and its index. It is no debugging entry
-    /// (`N_STAB`), and need not be defined in the image. `None` if there is none.
+    /// The first symbol in the table with this name that is not a debugging entry (`N_STAB`), and its index. It need
+    /// not be defined in the image. `None` if no symbol has the name.
     ///
     /// The call reads all symbols, and compares at most one byte more of each than the name has.
     ///
@@ -383,9 +384,9 @@ impl<'a> Image<'a> {
         (status == ffi::OK).then(|| (number, Symbol::new(symbol, self)))
     }
 
-    /// What the image exports under this name, as a dynamic loader looks it up in the export trie: that of
-    /// `LC_DYLD_EXPORTS_TRIE`, or of `LC_DYLD_INFO` or `LC_DYLD_INFO_ONLY`. `None` if there is none, or if the
-    /// bytes on the way to it are no trie, which only the linked profile judges.
+    /// What the image exports under this name, as a dynamic loader looks it up in the export trie of
+    /// `LC_DYLD_EXPORTS_TRIE`, `LC_DYLD_INFO` or `LC_DYLD_INFO_ONLY`. `None` if the image does not export the name, or
+    /// if the bytes on the way to it are not a well-formed trie. Only the linked profile judges the trie.
     ///
     /// Each call rescans the load commands. It takes no memory.
     ///
@@ -407,9 +408,9 @@ impl<'a> Image<'a> {
     }
 
     /// What the image exports, each with its name, by a walk over the export trie. In a file that
-    /// [`Profile::Linked`](crate::Profile::Linked) accepts these are all. In any other the walk ends before a node
-    /// that does not end in the trie, or with which the nodes that were met have more bytes than the trie, and it
-    /// leaves out what is no export.
+    /// [`Profile::Linked`](crate::Profile::Linked) accepts, the walk finds all exports. In any other file, it ends
+    /// before a node that does not end in the trie, or with which the visited nodes have more bytes than the trie.
+    /// There it leaves out a name whose export does not end in its part of the node.
     ///
     /// ```
     /// # let path = concat!(env!("CARGO_MANIFEST_DIR"), "/../../tests/real/program");
@@ -496,11 +497,10 @@ impl<'a> Image<'a> {
             .map(Relocation::from)
     }
 
-    /// The addresses of functions, before any slide, by the first `LC_FUNCTION_STARTS`. Each is below the next
-    /// one. They end before a number 0 of its data, a number that does not end in it, and an address of 2^64 or
-    /// more. There are none if the image has no base. In a file that
-    /// [`Profile::Linked`](crate::Profile::Linked) accepts each is the address of a byte of the file. In any other
-    /// one can be in no segment.
+    /// The addresses of functions, before any slide, by the first `LC_FUNCTION_STARTS`. Each is below the next one.
+    /// They end before a number 0 of its data, a number that does not end in it, and an address of 2^64 or more. An
+    /// image without a base has no starts. In a file that [`Profile::Linked`](crate::Profile::Linked) accepts, each
+    /// start is the address of a byte of the file. In any other file a start can be in no segment.
     ///
     /// ```
     /// # let path = concat!(env!("CARGO_MANIFEST_DIR"), "/../../tests/real/program");
@@ -554,9 +554,10 @@ impl<'a> Image<'a> {
         UncountedRows::new(*self)
     }
 
-    /// The blobs of the code signature, by the first `LC_CODE_SIGNATURE`, in the order of its index. Each lies
-    /// past the one before it. They end before the first of which this does not hold. There are none if the data
-    /// is no superblob. In a file that [`Profile::Linked`](crate::Profile::Linked) accepts these are all.
+    /// The blobs of the code signature, by the first `LC_CODE_SIGNATURE`, in the order of its index. Each lies past the
+    /// blob before it, and the rows end before the first blob that does not. They are empty if the data is not a
+    /// superblob. In a file that [`Profile::Linked`](crate::Profile::Linked) accepts, they have every blob of the
+    /// index.
     ///
     /// The entitlements are the blobs of the slots 5 (a property list) and 7 (DER), past their first 8 bytes:
     ///

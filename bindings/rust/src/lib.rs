@@ -46,8 +46,8 @@
 //! links `libkesvuot` from the folder `KESVUOT_LIB_DIR`, or else from where pkg-config finds it. `cargo check` and
 //! `cargo doc` need no library.
 //!
-//! Without the feature `std`, which is on by default, the crate uses only `core` and `alloc`, and its
-//! errors are no `std::error::Error`.
+//! Without the feature `std`, which is on by default, the crate uses only `core` and `alloc`, and its errors do not
+//! implement `std::error::Error`.
 
 #![no_std]
 #![deny(unsafe_code)]

@@ -1,4 +1,4 @@
-//! What an image has in its tables: segments, sections and so on.
+//! The rows of the tables of an image: segments, sections and so on.
 
 use core::fmt;
 use core::ops::Range;
@@ -201,7 +201,7 @@ impl<'a> Row<'a> for Library<'a> {
 #[non_exhaustive]
 pub struct Build {
     /// The platform, such as `PLATFORM_MACOS`. For an `LC_VERSION_MIN_IPHONEOS`, `LC_VERSION_MIN_TVOS` or
-    /// `LC_VERSION_MIN_WATCHOS` it is that of the device, also in an image for its simulator.
+    /// `LC_VERSION_MIN_WATCHOS` it is the device, also in an image for its simulator.
     pub platform: u32,
     /// The least version X.Y.Z of the platform: X << 16 | Y << 8 | Z.
     pub minos: u32,
@@ -271,7 +271,7 @@ pub struct DataInCode<'a> {
     pub offset: u32,
     /// How many bytes it has.
     pub length: u16,
-    /// `DICE_KIND_DATA` or another of these constants, or any other number.
+    /// A `DICE_KIND` constant, such as `DICE_KIND_DATA`, or any other number.
     pub kind: u16,
 }
 

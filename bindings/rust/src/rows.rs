@@ -71,7 +71,7 @@ where
         self.left -= count;
     }
 
-    /// The next rows, without going on. There are none only past the last one.
+    /// The next rows, without going on. Empty only past the last row.
     #[inline]
     pub(crate) fn ahead(&mut self) -> &[T::Raw] {
         if self.held.len() == 0 && self.left > 0 {
@@ -155,7 +155,7 @@ pub struct UncountedRows<'a, T: Row<'a>> {
     held: vec::IntoIter<T::Raw>,
     /// Where the rows after them are.
     cursor: <T::Raw as Raw>::Cursor,
-    /// There are no rows after them.
+    /// Whether the table has no rows after them.
     is_last: bool,
 }
 

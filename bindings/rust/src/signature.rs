@@ -1,4 +1,4 @@
-//! What the code signature of an image has: its blobs, and the code directories among them.
+//! The blobs of a code signature, and the code directories among them.
 
 use core::fmt;
 
@@ -13,9 +13,9 @@ use crate::{ffi, Image};
 pub struct Blob<'a> {
     /// The whole blob, with its magic and its length. What it holds begins after these 8 bytes.
     pub bytes: &'a [u8],
-    /// `type` of its entry: `CSSLOT_CODEDIRECTORY` or another of these constants, or any other number.
+    /// `type` of its entry: a `CSSLOT` constant, such as `CSSLOT_CODEDIRECTORY`, or any other number.
     pub slot: u32,
-    /// `CSMAGIC_CODEDIRECTORY` (0xfade0c02) or another of these, or any other number.
+    /// A `CSMAGIC` constant, such as `CSMAGIC_CODEDIRECTORY` (0xfade0c02), or any other number.
     pub magic: u32,
 }
 
@@ -65,14 +65,15 @@ impl<'a> Blob<'a> {
 pub struct CodeDirectory<'a> {
     /// The whole blob, with its magic and its length.
     pub bytes: &'a [u8],
-    /// The name of what was signed, without the zero byte past it. Empty if there is none.
+    /// The name of what was signed, without the zero byte that ends it. Empty if its offset is 0, or no zero byte ends
+    /// it.
     pub identifier: &'a [u8],
-    /// The team that signed it. Empty if there is none. Only versions from 0x20200 on have one.
+    /// The team that signed it, in the same form. Only versions from 0x20200 on have a team.
     pub team: &'a [u8],
-    /// The hashes of the code, one for each page, each of `hash_size` bytes. Empty if they pass the blob.
+    /// The hashes of the code, one for each page, each of `hash_size` bytes. Empty if they do not all lie in the blob.
     pub hashes: &'a [u8],
-    /// The special hashes, each of `hash_size` bytes. That of the special slot 1 is the last. Empty if they
-    /// pass the blob.
+    /// The special hashes, each of `hash_size` bytes. The hash of special slot 1 is the last. Empty if they do not all
+    /// lie in the blob.
     pub special_hashes: &'a [u8],
     /// How many bytes of the image are hashed, from its start on: `codeLimit64`, or `codeLimit` if that is 0 or
     /// not there.
@@ -87,7 +88,7 @@ pub struct CodeDirectory<'a> {
     pub special_slots: u32,
     /// The size of a hash in bytes. Any number.
     pub hash_size: u8,
-    /// `CS_HASHTYPE_SHA256` or another of these constants, or any other number.
+    /// A `CS_HASHTYPE` constant, such as `CS_HASHTYPE_SHA256`, or any other number.
     pub hash_type: u8,
     /// The log2 of the size of a page in bytes. 0: one page has all bytes.
     pub page_size: u8,
@@ -109,7 +110,7 @@ impl fmt::Debug for CodeDirectory<'_> {
 }
 
 impl<'a> CodeDirectory<'a> {
-    /// What the library has written of a blob.
+    /// Takes what the library has written about a blob.
     fn new(raw: &ffi::CodeDirectory, blob: &'a [u8]) -> Self {
         let part = |span: ffi::Span| &blob[span.offset as usize..][..span.size as usize];
         // The structure of the library has wider numbers for fields of one byte.

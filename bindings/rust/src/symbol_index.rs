@@ -7,9 +7,8 @@ use core::fmt;
 use crate::rows::Row;
 use crate::{ffi, Image, Symbol};
 
-/// The symbols of an image whose value is an address, by ascending addresses; of one address in the
-/// order of the table. These are the symbols of a section that are no debugging entries. Each takes 4
-/// bytes.
+/// The symbols of an image that are defined in a section, without debugging entries, by ascending addresses.
+/// Symbols at one address are in the order of the table. The index takes 4 bytes for each symbol.
 ///
 /// ```
 /// # let path = concat!(env!("CARGO_MANIFEST_DIR"), "/../../tests/real/program");

@@ -1,4 +1,4 @@
-//! What an image exports that is made here.
+//! The exports of an image that this file makes.
 
 mod support;
 
@@ -6,7 +6,7 @@ use kesvuot::constants::EXPORT_SYMBOL_FLAGS_WEAK_DEFINITION;
 use kesvuot::{Export, ExportKind};
 use support::image_of;
 
-/// A trie, of which each line is a node.
+/// A trie with a node in each line.
 const TRIE: [&[u8]; 9] = [
     b"\x00\x01_\0\x05",
     b"\x00\x07a\0\x1ck\0\x20o\0\x24q\0\x28r\0\x2ds\0\x34t\0\x39",

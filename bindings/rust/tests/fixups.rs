@@ -80,7 +80,7 @@ fn with_chain(form: u32, pointers: &[u64]) -> Vec<u8> {
     with_table(pointers, |place| vec![place, size], 0x8000_0034, &table)
 }
 
-/// Rebases to these targets, at these offsets of the second segment, and binds of these imports.
+/// A pointer by its offset in the second segment: a rebase with its target, or a bind with its import and addend.
 #[derive(Debug, PartialEq)]
 enum Pointer {
     Rebase(u64, u64),

@@ -104,7 +104,7 @@ fn hex(bytes: &[u8]) -> String {
     bytes.iter().map(|byte| format!("{byte:02x}")).collect()
 }
 
-/// The hashes are those that Python's hashlib has of these 117 bytes, with the types 1 to 4.
+/// Python's hashlib computed the wanted hashes of the same 117 bytes, for the types 1 to 4.
 #[test]
 fn a_directory_has_a_hash() {
     let wanted = [

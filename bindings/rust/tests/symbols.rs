@@ -8,8 +8,8 @@ use kesvuot::constants::{
 use kesvuot::{Symbol, SymbolKind, SymbolLibrary};
 use support::image_of;
 
-/// An executable of these flags of the header, of `LC_SYMTAB`, of a symbol of this type, description and value, and of
-/// the strings `_a` from 1 and `_b` from 4 on.
+/// An executable with the given flags in its header, `LC_SYMTAB`, a symbol with the given type, description and value,
+/// and the strings `_a` at 1 and `_b` at 4.
 fn with_symbol(flags: u32, n_type: u8, desc: u16, value: u64) -> Vec<u8> {
     let words = [0xfeed_facf, 0x0100_0007, 3, 2, 1, 24, flags, 0];
     let command = [2, 24, 56, 1, 72, 7];

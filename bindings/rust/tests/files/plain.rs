@@ -71,7 +71,7 @@ fn text(bytes: &[u8]) -> &[u8] {
     bytes.split(|&byte| byte == 0).next().unwrap()
 }
 
-/// `len` bytes from `start` on, of which the start does not count where there are none.
+/// `len` bytes from `start` on. If `len` is 0, `start` can be any number.
 fn part(bytes: &[u8], start: u64, len: u64) -> &[u8] {
     if len == 0 {
         return &[];
@@ -294,7 +294,7 @@ fn compare_sections(image: &Image, commands: &[Plain]) {
     }
 }
 
-/// For each section the name of its segment: that of the command, not that of the `section_64`.
+/// The name of each section's segment, from the segment's command: the `section_64` can have another name.
 fn segment_names<'a>(commands: &[Plain<'a>]) -> Vec<&'a [u8]> {
     let names = all_of(commands, LC_SEGMENT_64).flat_map(|segment| {
         let count = word(segment, 64) as usize;
@@ -348,8 +348,7 @@ fn nearest(symbols: &[(u64, Symbol)], address: u64) -> Option<(u64, Symbol)> {
         .copied()
 }
 
-/// The symbols by address and by name, each of which reads all symbols here. So only some are looked
-/// up.
+/// Looks up symbols by address and by name. Each look-up here reads all symbols, so only some are looked up.
 fn compare_lookups(image: &Image) {
     let all: Vec<_> = (0..).zip(image.symbols()).collect();
     let is_plain = |symbol: &Symbol| symbol.n_type & 0xe0 == 0;
@@ -377,7 +376,7 @@ fn compare_lookups(image: &Image) {
     assert_eq!(index.indices(), indices.collect::<Vec<_>>());
     let names = all.iter().filter_map(|(_, symbol)| image.name(symbol));
     for name in names.take(9) {
-        // Each name is read up to its end: not those of all symbols.
+        // Each name is read up to its end, so only some names are compared.
         let named = all
             .iter()
             .take(99)
@@ -462,8 +461,8 @@ fn compare_linkedit(image: &Image, commands: &[Plain]) {
     }
 }
 
-/// Each table by the offsets of its two fields in a command with one of these `cmd`s, and the size of an
-/// item.
+/// Compares each bounded table. A row has the table, its `cmd`s, the offset of its two fields in the command, and the
+/// size of an item.
 fn compare_bounded(image: &Image, commands: &[Plain]) {
     let (symtab, dysymtab) = ([LC_SYMTAB; 2], [LC_DYSYMTAB; 2]);
     let wanted = [
@@ -569,7 +568,7 @@ fn compare_code(image: &Image, commands: &[Plain]) {
 }
 
 /// The names of an export trie with what is said of each, from the node at `place` on, to which `name` leads. `None` if
-/// bytes are no node, or if more of them than `left` are passed.
+/// a node does not end in the trie, or if the visited nodes have more than `left` bytes.
 fn exports_from(
     trie: &[u8],
     place: u64,

@@ -65,7 +65,8 @@ fn blobs_of(table: &[u8]) -> Vec<(u32, &[u8])> {
     blobs
 }
 
-/// The string at an offset of a blob, without the zero byte that ends it. Empty if there is none.
+/// The string at an offset of a blob, without the zero byte that ends it. Empty if the offset is 0, or no zero byte
+/// ends it.
 fn string_at(blob: &[u8], offset: usize) -> &[u8] {
     let rest = match offset {
         0 => &[],
@@ -75,7 +76,8 @@ fn string_at(blob: &[u8], offset: usize) -> &[u8] {
     &rest[..end.unwrap_or(0)]
 }
 
-/// The names of a code directory, its hashes and its special hashes, and its limit. `None` if the blob is none.
+/// The names of a code directory, its hashes and its special hashes, and its limit. `None` if the blob is not a code
+/// directory.
 fn directory_of(blob: &[u8]) -> Option<([&[u8]; 4], u64)> {
     if word(blob, 0) != CSMAGIC_CODEDIRECTORY || blob.len() < FIELDS_SIZES[0].1 {
         return None;
@@ -122,7 +124,7 @@ fn compare_numbers(found: &CodeDirectory, blob: &[u8]) {
     );
 }
 
-/// Each known type of hashes has its size. The numbers of the types are those of the list, from 1 on.
+/// A hash of a known type has the size that `HASH_SIZES` lists for the type. The types count from 1.
 fn compare_hash(found: &CodeDirectory) {
     let known = usize::from(found.hash_type).checked_sub(1);
     let size = known.and_then(|type_of| HASH_SIZES.get(type_of));

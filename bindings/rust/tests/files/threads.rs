@@ -50,7 +50,7 @@ fn entry_of(cputype: u32, words: &[u32]) -> Option<u64> {
     Some(u64::from(words[*at]) | u64::from(words[at + 1]) << 32)
 }
 
-/// Compares what the first thread of these commands names, if that is in the file and can be executed.
+/// Compares the entry of the first thread command. An entry counts only if its byte is in the file and executable.
 pub fn compare<'a>(image: &Image, mut commands: impl Iterator<Item = (u32, &'a [u8])>) {
     let thread = commands.find(|(cmd, _)| [LC_THREAD, LC_UNIXTHREAD].contains(cmd));
     let entry = thread
