@@ -9,9 +9,9 @@
 // It shows how fast C can be at this. bench/speed runs it beside the program, and tests/floor tries its answers.
 // Nothing is walked twice without need: one walk over the load commands judges each command, segment and section, and
 // notes the least place at which each rule is broken; one loop judges the symbols. Ranges are sorted only where they
-// neither ascend nor descend, and those between which bytes are searched where they do not ascend. The file is read as
-// bench/speed reads it: standard input has to be a file, of 4 GiB at most. Where it cannot be read, or there is no
-// memory, or writing fails, there is no verdict (status 3, 4 and 3).
+// neither ascend nor descend, and ranges between which bytes are searched only where they do not ascend. The file is
+// read as bench/speed reads it: standard input has to be a file of at most 4 GiB. The program gives no verdict if it
+// cannot read the file, cannot allocate memory or cannot write (status 3, 4 and 3).
 //
 // Structures and constants have their public names. The rules stand in the order of docs/rules, a function for each:
 // of the file, of the header and the load commands, of segments and sections, of tables and symbols, and of the entry.
@@ -222,7 +222,7 @@ static inline uint64_t read_big(const uint8_t *at, size_t width) {
 #define FIELD(at, type, field) read_little((at) + offsetof(struct type, field), WIDTH(type, field))
 #define BIG_FIELD(at, type, field) read_big((at) + offsetof(struct type, field), WIDTH(type, field))
 
-// Whether `size` bytes from `start` end at the limit or before it. There is no sum, so none wraps.
+// Whether `size` bytes from `start` end at the limit or before it. The test adds nothing, so nothing wraps.
 static inline bool fits(uint64_t start, uint64_t size, uint64_t limit) {
     return start <= limit && size <= limit - start;
 }
@@ -238,8 +238,8 @@ enum rule { RULES(AS_CONSTANT) RULE_COUNT };
 
 static const char *const rule_names[RULE_COUNT] = {RULES(AS_NAME)};
 
-// The first of the rules that were found broken, and the least place in the file at which it is: RULE_COUNT where there
-// is none. It is the answer once all rules before it have been judged.
+// The first rule that was found broken, and the least place in the file at which it is broken. RULE_COUNT if every rule
+// so far holds. The rule is the answer once all rules before it have been judged.
 struct breaks {
     enum rule first;
     uint64_t place;
@@ -277,8 +277,8 @@ struct span {
 #define NOWHERE UINT64_MAX
 
 // What is known of spans that come one after another, by ascending places. As long as they ascend or descend, no two
-// share a number. Where the first that breaks this order shares one with the latest before it, its place is the least
-// of those that share one with an earlier span, and nothing has to be sorted.
+// share a number. If the first span that breaks this order shares a number with the latest span before it, its place is
+// the answer: no span at a lesser place shares a number with an earlier span, and nothing has to be sorted.
 struct order {
     uint64_t count;
     bool ascends, descends;
@@ -575,7 +575,7 @@ struct filetype {
 
 static const struct filetype filetypes[] = {FILETYPES(AS_FILETYPE)};
 
-// NULL where it is none of those that are judged.
+// NULL where the filetype is not judged.
 static const struct filetype *find_filetype(uint64_t filetype) {
     for (size_t k = 0; k < sizeof filetypes / sizeof filetypes[0]; k++) {
         if (filetypes[k].filetype == filetype) {
@@ -585,7 +585,7 @@ static const struct filetype *find_filetype(uint64_t filetype) {
     return NULL;
 }
 
-// The places of the first and the last command of a kind. Where there is none, the first is 0, which is in the header,
+// The places of the first and the last command of a kind. Without such commands the first is 0, which is in the header,
 // and the last has no value.
 struct range {
     uint64_t first, last;
@@ -598,11 +598,11 @@ struct image {
     uint64_t size;
     uint64_t start; // in the file
     struct arch arch;
-    const struct filetype *filetype; // NULL where it is none of those that are judged
+    const struct filetype *filetype; // NULL where the filetype is not judged
     uint64_t ncmds;
     uint64_t commands_end;
     uint64_t walked_end; // where the last command ends
-    // The places of commands that stand once; 0 where there is none.
+    // The places of commands that stand once; 0 for a missing command.
     uint64_t symtab, dysymtab, id_dylib, uuid, main;
     bool has_base;
     uint64_t base;
@@ -801,7 +801,7 @@ static inline bool breaks_section_relocs(const struct section *section, uint64_t
 
 // Rules of tables and symbols
 
-// A bounded table: the offsets of its start and count in the command, the width of these, and the bytes per entry.
+// A bounded table: the offsets of its start and count in the command, the width of both, and the bytes per entry.
 struct table {
     uint8_t start, count, width, entry;
 };
@@ -811,7 +811,7 @@ struct table {
 
 static const struct table bounded_tables[] = {BOUNDED_TABLES(AS_TABLE)};
 
-// A count of 64 bits is one of single bytes.
+// A count of 64 bits counts single bytes, so table_size does not wrap.
 static inline uint64_t table_start(const uint8_t *command, const struct table *table) {
     return read_little(command + table->start, table->width);
 }
@@ -829,7 +829,7 @@ static uint64_t symbol_count(const struct image *image) {
     return image->symtab == 0 ? 0 : FIELD(image->bytes + image->symtab, symtab_command, nsyms);
 }
 
-// Each group is two fields, of which the first index is the first.
+// Each group is two fields: its first index, then its count.
 static bool breaks_symbol_group(const struct image *image) {
     static const uint8_t groups[] = {
         offsetof(struct dysymtab_command, ilocalsym),
@@ -942,7 +942,7 @@ struct listed {
     uint8_t first_table, table_count;
 };
 
-// A number from 1 to 127 for a `cmd` whose other bits are 0. All listed commands have such a one.
+// A number below 128 for a `cmd` whose other bits are 0: from 1 on for each listed command.
 #define SLOT(cmd) (((cmd) & 0x3fu) | (cmd) >> 31 << 6)
 #define SLOT_BITS (0x3fu | LC_REQ_DYLD)
 
@@ -964,7 +964,7 @@ static const struct listed listed_commands[128] = {LISTED_COMMANDS(AS_LISTED)};
 
 static const char *const library_words[128] = {LIBRARIES(AS_WORD)};
 
-// The slot of a command; 0, which is that of no listed command, where it cannot be listed.
+// The slot of a command. 0, which no listed command has, for a command that cannot be listed.
 static inline size_t slot_of(uint64_t cmd) {
     return (cmd & ~(uint64_t)SLOT_BITS) == 0 ? SLOT(cmd) : 0;
 }
@@ -1057,7 +1057,7 @@ static inline void judge_command(struct image *image, uint64_t place, uint64_t s
     }
 }
 
-// The rules from command-walk to table-range, but for dylib-id and segment-overlap. A short command is not read.
+// The rules from command-walk to table-range, except dylib-id and segment-overlap. A short command is not read.
 static void walk(struct image *image) {
     uint64_t place = sizeof(struct mach_header_64);
     for (uint64_t k = 0; k < image->ncmds; k++) {
@@ -1097,7 +1097,7 @@ static inline void begin_image(struct image *image, const struct file *file, uin
     begin_order(&image->addresses);
 }
 
-// The rules up to table-range, but for segment-overlap. `entry` has the architecture of the slice's entry, and is NULL
+// The rules up to table-range, except segment-overlap. `entry` has the architecture of the slice's entry, and is NULL
 // where the file is not universal.
 static void survey(struct image *image, const struct arch *entry) {
     const uint8_t *header = image->bytes;
@@ -1149,7 +1149,7 @@ static bool is_read(const struct universal *file, const struct entry *entry) {
 }
 
 // The slices, which lie in the file: fat-slice-magic, fat-empty, and the rules of an image up to the first slice that
-// breaks one. fat-slice-magic comes first of these, so it goes on over all of them.
+// breaks one. fat-slice-magic comes before the others, so the loop goes on to judge it in every slice.
 static void judge_slices(const struct file *file, const struct universal *universal, struct breaks *breaks) {
     struct image image;
     bool is_empty = true;
@@ -1173,7 +1173,7 @@ static void judge_slices(const struct file *file, const struct universal *univer
 
 // The strict profile, of files that break no rule above
 
-// The first place from `start` up to `end` with a byte that is not zero; `end` where there is none.
+// The first place from `start` up to `end` with a byte that is not zero, or `end`.
 static uint64_t first_nonzero(const uint8_t *bytes, uint64_t start, uint64_t end) {
     uint64_t place = start;
     while (end - place >= sizeof(uint64_t) && read_little(bytes + place, sizeof(uint64_t)) == 0) {
@@ -1295,7 +1295,7 @@ static void gather_data(const struct image *image, uint64_t place, uint64_t entr
     gather(elements, start, size, image->start + place);
 }
 
-// What is encrypted is no element: it is in a section.
+// Encrypted bytes are not an element: they are in a section.
 static inline void gather_command(const struct image *image, uint64_t place, struct gathered *elements) {
     size_t slot = slot_of(FIELD(image->bytes + place, load_command, cmd));
     switch (slot) {
@@ -1395,8 +1395,8 @@ static void judge_commands(const struct image *image, const struct spans *parts)
     }
 }
 
-// The first place from `start` up to `end` with a byte that is neither zero nor a NOP; `end` where there is none. These
-// two bytes have no bits but the fifth and the last, and have both or none.
+// The first place from `start` up to `end` with a byte that is neither zero nor a NOP, or `end`. Both bytes have no
+// bits except the fifth and the last: a NOP has both, and zero has neither.
 static uint64_t first_no_nop(const uint8_t *bytes, uint64_t start, uint64_t end) {
     const uint64_t ones = 0x0101010101010101u, nops = ones * NOP, fifth = ones << 4;
     uint64_t place = start;
@@ -1441,8 +1441,9 @@ static bool has_nops(const struct image *image, const struct span *part) {
     return (FIELD(command, segment_command_64, initprot) & VM_PROT_EXECUTE) != 0;
 }
 
-// The first byte from `start` up to `end` that is neither zero nor a NOP; `end` where there is none. Each byte that is
-// not zero lies in one of the file parts; `part` is one that ends before no such byte, and goes on with them.
+// The first byte from `start` up to `end` that is neither zero nor a NOP, or `end`. Each byte that is not zero lies in
+// a file part. `part` has to be the part of the first byte that is not zero, or an earlier one, and goes on with the
+// bytes.
 static uint64_t first_unclaimed(const struct image *image, uint64_t start, uint64_t end, const struct span **part) {
     uint64_t place = first_nonzero(image->bytes, start, end);
     while (place < end) {
@@ -1544,7 +1545,7 @@ static void judge_universal_strictly(const struct file *file, const struct unive
 
 // The report, as docs/reference/commands.md has its lines
 
-// The most bytes of a line, but for the name of a library.
+// The most bytes of a line, without the name of a library.
 #define LINE_SIZE ((size_t)512)
 
 static uint8_t output[OUTPUT_SIZE];

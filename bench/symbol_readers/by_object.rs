@@ -3,8 +3,8 @@
 //!
 //!     by_object ROUNDS REPEATS FILE
 //!
-//! Its symbols are those of `object::read::macho`, which has each entry of the table. The `symbols` of
-//! `object::File` has no debugging entries.
+//! It takes the symbols from `object::read::macho`, which has each entry of the table. `symbols` of `object::File`
+//! leaves out debugging entries.
 
 mod steps;
 
@@ -39,7 +39,7 @@ impl<'a> Image<'a> {
         Ok(image)
     }
 
-    /// The number of a symbol's section, if there is such a section. Otherwise 0.
+    /// The number of a symbol's section, or 0 if no section has the number.
     fn section(&self, symbol: &Entry) -> u64 {
         let number = u64::from(symbol.n_sect());
         if number <= self.section_count {

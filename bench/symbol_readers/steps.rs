@@ -5,8 +5,8 @@ use std::hint::black_box;
 use std::os::raw::{c_int, c_long};
 use std::{env, fs};
 
-/// What a reader adds up over the symbols. The section of a symbol counts from 1, and 0 is none. Of
-/// fixups these are the addresses, the segments from 1 on, and the indices of the imports.
+/// The sums of a reader over the symbols. The section of a symbol counts from 1, and 0 stands for no section. Over
+/// fixups a reader adds up the addresses, the segments from 1 on, and the indices of the imports.
 #[derive(Clone, Copy, Default)]
 pub struct Sums {
     count: u64,
