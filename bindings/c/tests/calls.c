@@ -212,7 +212,7 @@ static void try_verdicts(void) {
     try_verdict(KESVUOT_LAYOUT, KESVUOT_LINKED, library.bytes, library.size, KESVUOT_OK, of_two);
     try_sealed_verdicts();
     try_all(library.bytes, library.size - 1, KESVUOT_REFUSED, cut);
-    // Its 64-bit image has no segment, so none has its header. The place is that of sizeofcmds.
+    // The 64-bit image of `mixed` has no segment, so no segment has its header. The place is the offset of sizeofcmds.
     const struct kesvuot_verdict no_segment = {96 + 20, 0, KESVUOT_HEADER_SEGMENT, 0};
     try_verdict(KESVUOT_LAYOUT, KESVUOT_LAYOUT, mixed.bytes, mixed.size, KESVUOT_OK, of_two);
     try_verdict(KESVUOT_STRICT, KESVUOT_SEALED, mixed.bytes, mixed.size, KESVUOT_REFUSED, no_segment);
@@ -438,7 +438,7 @@ static void try_names(const struct kesvuot_image *image) {
     }
 }
 
-// The names of a batch are those of its symbols, one by one. Later names stay as they were.
+// A batch of symbols has the names that single calls give. Later names stay as they were.
 static void try_names_of_batch(const struct kesvuot_image *image, const struct kesvuot_symbol *rows, size_t count,
                                size_t max) {
     const size_t written = count < max ? count : max;
@@ -626,15 +626,15 @@ static const uint32_t CODE[] = {
     0x26, 16, 136, 18, 0x29, 16, 156, 31,
     // 0x440, 1, 0x7f, 0x3fff, 0xfffffffeffffbb40 in ten bytes, 1 and 5
     0x7f0108c0, 0xf6c07fff, 0xffeffffe, 0x1ffffff, 0x501,
-    // three entries: the last byte, two bytes of which one is past the image, the data of LC_FUNCTION_STARTS; another
-    // one, of which the data has seven bytes
+    // three entries: the last byte, two bytes that end one past the image, the data of LC_FUNCTION_STARTS; and seven
+    // bytes of a fourth entry
     187, 1 | 5 << 16, 187, 2 | 2 << 16, 136, 18 | 0xffffu << 16, 0, 8 | 1 << 16,
 };
 enum { CODE_SIZE = sizeof CODE, STARTS = 5, ENTRIES = 3, STARTS_SIZE_AT = 29, BEFORE = 40 };
 
 static const uint64_t CODE_STARTS[STARTS] = {0x100000440, 0x100000441, 0x1000004c0, 0x1000044bf, UINT64_MAX};
 
-// Reads all functions in batches of `each`. There are `wanted`, each as far past `base` as that of CODE_STARTS.
+// Reads all functions in batches of `each`. There are `wanted`, as far past `base` as CODE_STARTS is past 0x100000000.
 static void try_starts(const void *bytes, const struct kesvuot_image *image, size_t each, size_t wanted) {
     struct kesvuot_cursor cursor = {0};
     uint64_t rows[STARTS + 2];
@@ -673,7 +673,7 @@ static void try_function_starts(void) {
     memcpy(words, CODE, CODE_SIZE);
     ((uint8_t *)words)[138] = 0;
     try_starts(words, &image, 2, 1);
-    // From another base, of which the address 2^64 - 1 is no more one, and without a base.
+    // From a base that is one greater, so that the last address would be 2^64, and without a base.
     image.base++;
     try_starts(CODE, &image, 2, 4);
     image.has &= ~(uint32_t)KESVUOT_HAS_BASE;
@@ -880,7 +880,7 @@ static void try_export(const uint8_t *bytes, size_t size, const struct kesvuot_i
     release(guarded);
 }
 
-// All exports, of a file in which the image begins at an offset, and names that are none.
+// All exports of a file in which the image begins at an offset, and names that it does not export.
 static void try_all_exports(const uint8_t *bytes, size_t size, const struct kesvuot_image *image, uint64_t offset) {
     const uint64_t base = image->base;
     const struct {
@@ -1018,7 +1018,7 @@ static void try_all_nodes(const uint8_t *bytes, size_t size, const struct kesvuo
     try_no_node(bytes, size, image, NO_TRIE, 0);
 }
 
-// Terminal parts that are no export, and edges that do not end in the trie.
+// Terminal parts in which an export does not end, and edges that do not end in the trie.
 static void try_odd_nodes(void) {
     const struct kesvuot_image image = image_of_tables(&EXPORTS, EXPORTS_SIZE);
     // The flags do not end in the part, and the address does not.
@@ -1141,7 +1141,7 @@ static void try_thread_entries(void) {
         for (size_t index = 0; index < sizeof outside / sizeof *outside; index++) {
             CHECK(begins_at(words, write_thread(words, state, outside[index]), 0));
         }
-        // LC_THREAD; LC_IDENT is no thread. A segment that can be read and written, or executed alone
+        // LC_THREAD has a thread, and LC_IDENT does not. A segment that can be read and written, or executed alone
         CHECK(begins_with(state, 26, 0x4, base + 0x20) && begins_with(state, 26, 0x8, 0));
         CHECK(begins_with(state, 23, 3, 0) && begins_with(state, 23, 4, base + 0x20));
         // Another flavor, a word less, a word more, and another processor
@@ -1292,7 +1292,7 @@ static void try_symbols_by_name(struct file file, const struct kesvuot_image *im
     try_symbol_named(file, image, "_a", 3, 7);
     try_symbol_named(file, image, "_b\0_ab", 6, 7);
     try_symbol_named(file, image, "_abc", 4, 7);
-    // The last string has no zero byte, so it is no name.
+    // The last string is not a name, as it has no zero byte.
     struct kesvuot_image cut = *image;
     cut.strings_size--;
     try_symbol_named(file, &cut, "_ab", 3, 7);

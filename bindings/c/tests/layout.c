@@ -108,7 +108,7 @@ static void write_section(FILE *out, const struct kesvuot_section *section) {
     }
 }
 
-// The next sections, which are those of the segment.
+// The sections of the segment, which come next in the table.
 static void write_sections(FILE *out, const struct kesvuot_image *image, const struct kesvuot_segment *segment,
                            struct kesvuot_cursor *cursor) {
     struct kesvuot_section rows[ROWS];

@@ -56,7 +56,7 @@ static void take(struct kesvuot_span bytes, size_t size) {
     }
 }
 
-// Any numbers, or those of the start of a table.
+// A cursor of any numbers, or of zeros, which is before the first row.
 static struct kesvuot_cursor some_cursor(void) {
     struct kesvuot_cursor cursor = {0};
     if (draw_below(2)) {
@@ -118,7 +118,7 @@ static void take_names(const struct kesvuot_image *image, size_t size) {
 // The same of a table of an image, from any cursor on.
 #define TAKE_TABLE(row_type, call, take_row) TAKE_ROWS(row_type, struct kesvuot_cursor, some_cursor(), call, take_row)
 
-// The hash of any bytes of the file as a code directory. There is none where they are no code directory.
+// Takes the hash of a blob of any bytes. Only a code directory has a hash.
 static void take_cdhash(const struct kesvuot_blob *blob, size_t size, uint32_t directory_status) {
     struct kesvuot_cdhash found;
     memset(&found, UNWRITTEN, sizeof found);
@@ -129,7 +129,7 @@ static void take_cdhash(const struct kesvuot_blob *blob, size_t size, uint32_t d
     CHECK(is_filled(found.digest + found.size, sizeof found.digest - found.size, 0));
 }
 
-// What any bytes of the file say as a code directory, and those of a blob.
+// Takes any bytes of the file, or a blob of a signature, as a code directory.
 static void take_code_directory(const struct kesvuot_blob *blob, size_t size) {
     struct kesvuot_code_directory found;
     const uint32_t status = kesvuot_read_code_directory(file.bytes, size, blob, &found);

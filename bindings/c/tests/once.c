@@ -1,5 +1,5 @@
-// once CALL FILE: makes one call of the library on a file. tests/cost counts its instructions. What came of it is
-// printed:
+// once CALL FILE: makes one call of the library on a file. tests/cost counts its instructions. The program prints the
+// result:
 //
 //     none              nothing: no call is made
 //     verify-PROFILE    the verdict by this profile, as the first line of macho-verify

@@ -1,5 +1,5 @@
 // parts FILE SLICE [ADDRESS..]: prints what the calls return of an image of an accepted file, and what is at the
-// addresses, which are hexadecimal. The lines are those of the texts in tests/real (tests/library says how they were
+// addresses, which are hexadecimal. It prints the lines of the texts in tests/real (tests/library says how they were
 // made), except for the fields of LC_DYSYMTAB that the library does not return.
 #include "support.h"
 #include <inttypes.h>

@@ -5,8 +5,8 @@
 #include "kesvuot.h"
 #include <stdbool.h>
 
-// Where a file lies among the pages that may be read: with its last byte at the end of the last one, or with its first
-// at the start of the first one. A read outside ends the program. In a block of malloc, valgrind sees such a read.
+// Where a file lies. Its last byte is the last byte of the pages that may be read, or its first byte is their first
+// byte: there a read outside ends the program. Or it lies in a block of malloc: there valgrind sees a read outside.
 enum side { AT_END, AT_START, IN_BLOCK };
 
 struct file {
@@ -48,14 +48,14 @@ const uint8_t *bytes_at(const struct file *file, struct kesvuot_span span);
 
 void print_name(const struct file *file, struct kesvuot_span name);
 
-// The number after that of the last rule. The first rule has the number 1, and no number between is left out.
+// One more than the number of the last rule. The first rule has the number 1, and no number between is left out.
 uint32_t end_of_rules(void);
 
 // The number of the profile with this name. Ends the program if no profile has the name.
 uint32_t profile_named(const char *name);
 
-// A call on an image, by its name without `kesvuot_`. It returns how many rows or answers the library gives of those that
-// support.c asks for, or whether there is one.
+// A call on an image, by its name without `kesvuot_`. support.c asks for rows or answers, and the call returns how many
+// the library gives, or whether it gives one.
 struct view {
     const char *name;
     size_t (*call)(const struct file *file, const struct kesvuot_image *image);

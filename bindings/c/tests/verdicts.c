@@ -7,7 +7,7 @@
 #include <stdlib.h>
 #include <string.h>
 
-// What verdicts have before the call, so that a field that is not written is seen.
+// A verdict before the call. UNWRITTEN shows a field that the call does not write.
 static struct kesvuot_verdict unwritten(void) {
     struct kesvuot_verdict verdict;
     memset(&verdict, UNWRITTEN, sizeof verdict);
