@@ -307,11 +307,11 @@ static inline const char *kesvuot_platform_name(uint32_t platform) {
 
 /* Why a file is refused */
 
-/* No index. */
 #define KESVUOT_NO_INDEX UINT32_MAX
 
-/* What a part of a file is, and what its index counts: `kind` of struct kesvuot_part. An index is KESVUOT_NO_INDEX if
- * nothing is said of it. */
+/* `kind` of struct kesvuot_part: what a part of a file is, and what its index counts. The bytes, the addresses and the
+ * relocations of a segment or section have its index. Any other kind whose comment has no index has
+ * KESVUOT_NO_INDEX. */
 enum {
     /* registry: parts */
     KESVUOT_PART_NONE = 0,            /* no part: all numbers are 0 */
@@ -373,7 +373,7 @@ struct kesvuot_part {
 struct kesvuot_explanation {
     struct kesvuot_part at;     /* the structure that has the place, or the byte there. It lies in the file */
     struct kesvuot_part first;  /* what breaks the rule */
-    struct kesvuot_part second; /* with which it conflicts, or in which it should lie */
+    struct kesvuot_part second; /* what the first part conflicts with, or should lie in */
     uint64_t value;             /* the numbers that the rule compares */
     uint64_t limit;
     uint32_t slice;             /* the index of the slice that has the place, or whose entry is there */
@@ -558,7 +558,6 @@ struct kesvuot_command {       /* load_command */
     uint32_t reserved;
 };
 
-/* The index of no section. */
 #define KESVUOT_NO_SECTION UINT32_MAX
 
 /* How to read `type` and `desc`, by the constants of <mach-o/nlist.h> below, such as KESVUOT_N_STAB:
@@ -605,20 +604,22 @@ struct kesvuot_data_in_code {  /* data_in_code_entry. The linked profile judges 
     struct kesvuot_span bytes; /* the data in the file; empty if it does not all lie in the slice */
     uint32_t offset;           /* where the data begins in the slice */
     uint16_t length;           /* its size in bytes */
-    uint16_t kind;             /* KESVUOT_DICE_KIND_DATA or another of these, or any other number */
+    uint16_t kind;             /* KESVUOT_DICE_KIND_.., or any other number */
 };
 
 struct kesvuot_blob {          /* CS_BlobIndex and CS_GenericBlob */
     struct kesvuot_span bytes; /* the blob in the file, with its magic and its length */
-    uint32_t slot;             /* `type` of its entry: CSSLOT_CODEDIRECTORY (0), another of these, or any number */
-    uint32_t magic;            /* CSMAGIC_CODEDIRECTORY (0xfade0c02), another of these, or any number */
+    uint32_t slot;             /* `type` of its entry: CSSLOT_CODEDIRECTORY (0), another CSSLOT_.., or any number */
+    uint32_t magic;            /* CSMAGIC_CODEDIRECTORY (0xfade0c02), another CSMAGIC_.., or any number */
 };
 
 struct kesvuot_code_directory {         /* CS_CodeDirectory */
-    struct kesvuot_span identifier;     /* in the file, without the zero byte past it; empty if there is none */
-    struct kesvuot_span team;           /* the same. Only versions from 0x20200 on have one */
-    struct kesvuot_span hashes;         /* those of the code, one for each page; empty if they pass the blob */
-    struct kesvuot_span special_hashes; /* that of special slot 1 is the last; empty if they pass the blob */
+    struct kesvuot_span identifier;     /* in the file, without the zero byte that ends it; empty if its offset is 0, or
+                                           no zero byte of the blob ends it */
+    struct kesvuot_span team;           /* in the same form. Only versions from 0x20200 on have a team */
+    struct kesvuot_span hashes;         /* of the code, one for each page; empty if they do not all lie in the blob */
+    struct kesvuot_span special_hashes; /* the hash of special slot 1 is the last; empty if they do not all lie in the
+                                           blob */
     uint64_t limit;                     /* codeLimit64, or codeLimit if that is 0 or not there: how many bytes of
                                            the slice are hashed, from its start on */
     uint32_t version;                   /* 0x20000 or more */
@@ -626,7 +627,7 @@ struct kesvuot_code_directory {         /* CS_CodeDirectory */
     uint32_t code_slots;                /* how many hashes there are */
     uint32_t special_slots;             /* how many special hashes */
     uint32_t hash_size;                 /* in bytes */
-    uint16_t hash_type;                 /* CS_HASHTYPE_SHA256 (2) or another of these, or any other number */
+    uint16_t hash_type;                 /* CS_HASHTYPE_SHA256 (2), another CS_HASHTYPE_.., or any other number */
     uint16_t page_size;                 /* the log2 of the size of a page in bytes; 0: one page has all bytes */
 };
 
@@ -662,33 +663,34 @@ size_t kesvuot_read_symbols(const void *file, size_t size, const struct kesvuot_
 size_t kesvuot_read_indirects(const void *file, size_t size, const struct kesvuot_image *image,
                               struct kesvuot_cursor *cursor, uint32_t *rows, size_t max);
 
-/* The relocations of a section, by its reloff and nreloc. In an accepted file there are nreloc. There are none if they
- * do not all lie in the slice. */
+/* The relocations of a section, by its reloff and nreloc. In an accepted file there are nreloc. In any other file the
+ * call writes no rows if they do not all lie in the slice. */
 size_t kesvuot_read_relocations(const void *file, size_t size, const struct kesvuot_image *image, uint32_t reloff,
                                 uint32_t nreloc, struct kesvuot_cursor *cursor, struct kesvuot_relocation *rows,
                                 size_t max);
 
 /* The addresses of functions, before any slide, by the first LC_FUNCTION_STARTS. Each is below the next one.
- * The data of the command is ULEB128 numbers: each says how far a function is past the one before it, and the first
- * one how far past `base` of the image. The functions end before a number 0, a number that does not end in the data or
- * in 10 bytes, an address of 2^64 or more, and at the end of the data. There are none if the image has no base. In a
- * file that was not accepted, there are also none if the data ends past the slice.
- * In a file that the linked profile accepts each is the address of a byte of the file, and no number is left out. In
- * any other one can be in no segment. Either way it can be in a segment that is not executable. */
+ * The data of the command is ULEB128 numbers: each says how far a function is past the one before it, and the first one
+ * how far past `base` of the image. The functions end before a number 0, a number that does not end in the data or in
+ * 10 bytes, an address of 2^64 or more, and at the end of the data. The call writes no rows if the image has no base.
+ * In a file that was not accepted, it also writes no rows if the data ends past the slice.
+ * In a file that the linked profile accepts, each row is the address of a byte of the file, and no number is left out.
+ * In any other file an address can be in no segment. In either file it can be in a segment that is not executable. */
 size_t kesvuot_read_function_starts(const void *file, size_t size, const struct kesvuot_image *image,
                                     struct kesvuot_cursor *cursor, uint64_t *rows, size_t max);
 
-/* The data in the code, by the first LC_DATA_IN_CODE: the entries that are whole. In a file that was not accepted,
- * there are none if the data of the command ends past the slice.
- * They can be in any order, and overlap. In a file that the linked profile accepts all entries are whole and of a
- * known kind, and the bytes of each are in one executable segment. In any other they can be of no code. */
+/* The data in the code, by the first LC_DATA_IN_CODE: the entries that are whole. In a file that was not accepted, the
+ * call writes no rows if the data of the command ends past the slice.
+ * They can be in any order, and overlap. In a file that the linked profile accepts, all entries are whole and of a
+ * known kind, and the bytes of each are in one executable segment. In any other file the bytes can be outside of the
+ * code. */
 size_t kesvuot_read_data_in_code(const void *file, size_t size, const struct kesvuot_image *image,
                                  struct kesvuot_cursor *cursor, struct kesvuot_data_in_code *rows, size_t max);
 
 /* The blobs of the code signature, by the first LC_CODE_SIGNATURE, in the order of its index. Each lies in the
- * superblob, past its index and past the blob before it. They end before the first that does not. There are none if
- * the data has no superblob with the magic CSMAGIC_EMBEDDED_SIGNATURE (0xfade0cc0) that ends in it. In a
- * file that was not accepted, there are also none if the data ends past the slice.
+ * superblob, past its index and past the blob before it. The rows end before the first blob that does not. The call
+ * writes no rows unless the data begins with a superblob with the magic CSMAGIC_EMBEDDED_SIGNATURE (0xfade0cc0) that
+ * ends in the data. In a file that was not accepted, it also writes no rows if the data ends past the slice.
  * In a file that the linked profile accepts no blob of the index is left out. */
 size_t kesvuot_read_blobs(const void *file, size_t size, const struct kesvuot_image *image,
                           struct kesvuot_cursor *cursor, struct kesvuot_blob *rows, size_t max);
@@ -697,9 +699,9 @@ size_t kesvuot_read_blobs(const void *file, size_t size, const struct kesvuot_im
  * OK: all fields are written.
  * NONE: the blob has another magic, a version below 0x20000, fewer bytes than the fields of its version, or a scatter
  * vector. All fields are 0.
- * In a file that the linked profile accepts each blob in a slot of code directories (0, 0x1000 to 0x1004) is one.
- * Its names and hashes lie in it, hash_type is known, and `limit` is where the signature begins in the slice, so there
- * is a hash for each page before that. Only the sealed profile compares the hashes with the pages. */
+ * In a file that the linked profile accepts, each blob in a slot of code directories (0, 0x1000 to 0x1004) is a code
+ * directory. Its names and hashes lie in it, hash_type is known, and `limit` is where the signature begins in the
+ * slice, so there is a hash for each page before that. Only the sealed profile compares the hashes with the pages. */
 uint32_t kesvuot_read_code_directory(const void *file, size_t size, const struct kesvuot_blob *blob,
                                      struct kesvuot_code_directory *directory);
 
@@ -707,8 +709,8 @@ uint32_t kesvuot_read_code_directory(const void *file, size_t size, const struct
  * directory's own type of hashes. Neither the slot of the blob matters, nor what the directory says of the code.
  * OK: all fields are written.
  * NONE: kesvuot_read_code_directory returns NONE for the blob, or its hash_type is not known. All fields are 0.
- * In a file that the linked profile accepts each blob in a slot of code directories has one. It is about the bytes of
- * the directory alone: only the sealed profile compares the hashes in it with the pages.
+ * In a file that the linked profile accepts, each blob in a slot of code directories has a hash. The hash is about the
+ * bytes of the directory alone: only the sealed profile compares the hashes in it with the pages.
  * The call takes time in proportion to the size of the blob, and no memory. */
 uint32_t kesvuot_read_cdhash(const void *file, size_t size, const struct kesvuot_blob *blob,
                              struct kesvuot_cdhash *cdhash);
@@ -853,8 +855,8 @@ struct kesvuot_fixup {         /* a pointer of 8 bytes. Only the linked profile 
  * follows. The pointers of an opcode end before the first that is not in the bytes of its segment, and the next opcode
  * follows.
  *
- * By chains: segment by segment, page by page, along each chain. In a file that linked refuses there are no rows if
- * chain-header is broken. Otherwise all rows end before the first segment whose entry is not in the table, or whose
+ * By chains: segment by segment, page by page, along each chain. In a file that linked refuses, the call writes no rows
+ * if chain-header is broken. Otherwise all rows end before the first segment whose entry is not in the table, or whose
  * starts break chain-starts, where a missing base counts as 0. Neither a segment that is not writable nor a seg_count
  * that is too large ends them. They also end before the first pointer that is not whole in its page, or not whole in
  * the bytes of its segment, or whose next one begins in its own bytes, or whose import is not in the table. No import
@@ -869,9 +871,9 @@ size_t kesvuot_read_fixups(const void *file, size_t size, const struct kesvuot_i
  * that binds a pointer, of the bind, the weak bind and the lazy bind stream in turn. Two rows can have one name. A
  * stream ends where kesvuot_read_fixups says.
  *
- * By chains: the imports of the table. In a file that linked refuses there are no imports if chain-header is broken, or
- * if the array of imports ends past the table. Otherwise they end before the first whose name does not end in the
- * table, or with which the names have more bytes than the table. */
+ * By chains: the imports of the table. In a file that linked refuses, the call writes no rows if chain-header is
+ * broken, or if the array of imports ends past the table. Otherwise the rows end before the first import whose name
+ * does not end in the table, or with which the names have more bytes than the table. */
 size_t kesvuot_read_imports(const void *file, size_t size, const struct kesvuot_image *image,
                             struct kesvuot_fixup_cursor *cursor, struct kesvuot_import *rows, size_t max);
 
@@ -898,7 +900,7 @@ struct kesvuot_export {       /* an export. Only the linked profile judges its f
  * OK: the export is written.
  * NONE: the image exports no such name, or has no trie. Also if a node on the way does not end in the trie, or a number
  * or the name of the export does not end in its part of the node. Also if the nodes on the way, each counted as often
- * as it is met, have more bytes than the trie. All fields are 0.
+ * as it is visited, have more bytes than the trie. All fields are 0.
  * In a file that the unambiguous profile accepts, it is the export that any reader of the trie finds under the name.
  * The call reads the load commands, and then the nodes on the way. It takes no memory. */
 uint32_t kesvuot_find_export(const void *file, size_t size, const struct kesvuot_image *image, const void *name,
@@ -921,9 +923,9 @@ uint32_t kesvuot_find_export_trie(const void *file, size_t size, const struct ke
  * that lead to them. guide/c.md has a walk.
  *
  * A node reaches from its offset to the `place` of its cursor past its last edge. In a file that the linked profile
- * accepts, the nodes that are met, each as often as it is met, have no more bytes than the trie. In any other an edge
- * can lead back, and two can lead to one node: there a caller adds up the bytes of the nodes, and stops where they are
- * more than the trie has. */
+ * accepts, the visited nodes, each counted as often as it is visited, have no more bytes than the trie. In any other
+ * file an edge can lead back, and two edges can lead to one node: there a caller adds up the bytes of the visited
+ * nodes, and stops when they have more bytes than the trie. */
 
 struct kesvuot_export_node {       /* a node of an export trie. Only the linked profile judges it */
     struct kesvuot_export exported; /* what the name that ends here is exported as, if has_export is 1. Otherwise 0 */
@@ -949,15 +951,15 @@ uint32_t kesvuot_read_export_node(const void *file, size_t size, const struct ke
                                   const struct kesvuot_span *trie, uint64_t offset, struct kesvuot_export_node *node);
 
 /* The edges of a node, from its cursor on, in batches as of the tables of an image: it writes the next ones, up to
- * `max`, moves the cursor past them, and returns how many it wrote. It stops before one whose label or number does not
- * end in the trie: then `items` of the cursor is not 0, and fewer than max were written. All zeros are a cursor of no
+ * `max`, moves the cursor past them, and returns how many it wrote. It stops before an edge whose label or number does
+ * not end in the trie: then `items` of the cursor is not 0, and fewer than max were written. A cursor of zeros has no
  * edges. */
 size_t kesvuot_read_export_edges(const void *file, size_t size, const struct kesvuot_span *trie,
                                  struct kesvuot_cursor *cursor, struct kesvuot_export_edge *rows, size_t max);
 
 /* The data of the first linkedit_data_command with this cmd, such as LC_CODE_SIGNATURE (0x1d) or LC_FUNCTION_STARTS
  * (0x26).
- * OK: all datasize bytes from dataoff on. If datasize is 0, there are none, whatever dataoff is.
+ * OK: all datasize bytes from dataoff on. If datasize is 0, the span is empty, whatever dataoff is.
  * NONE: the image has no such command, or rules/layout.md does not list cmd as a linkedit_data_command (for example
  * LC_ATOM_INFO, 0x36). In a file that was not accepted, also if the data ends past the image, or the headers break a
  * rule. After NONE the span is empty. */
@@ -990,7 +992,7 @@ enum {
 
 /* A table of an image, by a number such as KESVUOT_TABLE_REBASE. With several such commands it is a table of the first,
  * LC_DYLD_INFO or LC_DYLD_INFO_ONLY alike. The linked profile accepts only one of the two commands, once.
- * OK: all bytes of the table. If it has no items, there are none, whatever its offset is.
+ * OK: all bytes of the table. If it has no items, the span is empty, whatever its offset is.
  * NONE: the image has no such command, or no table has the number. In a file that was not accepted, also if the table
  * ends past the image. After NONE the span is empty. */
 uint32_t kesvuot_find_table(const void *file, size_t size, const struct kesvuot_image *image, uint32_t table,
@@ -1008,8 +1010,8 @@ uint32_t kesvuot_find_source_version(const void *file, size_t size, const struct
  * NONE: the image has no such command, its states do not end where it ends, not exactly one of them has registers that
  * are known for the cputype, or the file has no byte that can be executed at the address. In a file that was not
  * accepted, also if the headers break a rule. The entry is 0.
- * In a file that the linked profile accepts, each image with such a command has the address, and no second thread.
- * In any other a loader may obey another thread. */
+ * In a file that the linked profile accepts, each image with an LC_THREAD or LC_UNIXTHREAD has the address, and no
+ * second thread. In any other file a loader may obey another thread. */
 uint32_t kesvuot_find_thread_entry(const void *file, size_t size, const struct kesvuot_image *image, uint64_t *entry);
 
 /* What is at an address, before any slide.
