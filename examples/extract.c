@@ -24,7 +24,7 @@
 #include "judged.h"
 #include "kesvuot.h"
 
-// Two numbers, and two names of 16 bytes, each byte of which can become three.
+// Two numbers, and two names of 16 bytes: a byte of a name can become three.
 #define NAME_SIZE 160
 
 // The folder to write to, and the current image.

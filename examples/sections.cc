@@ -70,8 +70,8 @@ std::vector<Row> rows(const Bytes &file, const kesvuot_image &image, Call call, 
     return found;
 }
 
-// The index of the section in which a symbol is defined. mach-o/nlist.h has the masks. symbol-section: such a symbol is
-// in a section that exists.
+// The index of the section in which a symbol is defined. mach-o/nlist.h has the masks. By the rule symbol-section the
+// section exists.
 std::optional<std::size_t> section_of(const kesvuot_symbol &symbol) {
     constexpr unsigned n_stab = 0xe0, n_type = 0x0e, n_sect = 0x0e;
     if ((symbol.type & n_stab) != 0 || (symbol.type & n_type) != n_sect) {

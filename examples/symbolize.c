@@ -6,9 +6,10 @@
 //
 //     0xADDRESS SYMBOL + 0xOFFSET (SEGMENT,SECTION)
 //
-// with the nearest symbol at or before ADDRESS; if several have its address, the last in the table. If there is none,
-// or ADDRESS is not in its section, SYMBOL is `function at 0xSTART`, the nearest function by LC_FUNCTION_STARTS, as in
-// a file that was stripped. The line is `0xADDRESS ?` if no function before it begins in its section either.
+// with the nearest symbol at or before ADDRESS; if several have its address, the last in the table. If no symbol is at
+// or before ADDRESS, or ADDRESS is not in the symbol's section, SYMBOL is `function at 0xSTART`, the nearest function
+// by LC_FUNCTION_STARTS, as in a file that was stripped. The line is `0xADDRESS ?` if no function before it begins in
+// its section either.
 //
 //     cc -std=c99 -O2 -Ibindings/c -o build/symbolize examples/symbolize.c build/lib/libkesvuot.a
 //
