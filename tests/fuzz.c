@@ -51,13 +51,13 @@ enum { VERDICTS = KESVUOT_SEALED + 1 };
 
 #define AND_ONE(rule, name) +1
 
-// How many rules there are. Their numbers begin at 1, and none is left out.
+// How many rules there are. Their numbers begin at 1, without gaps.
 enum {
     RULE_COUNT = LAYOUT_RULES(AND_ONE) STRICT_RULES(AND_ONE) LINKED_RULES(AND_ONE) UNAMBIGUOUS_RULES(AND_ONE)
         SEALED_RULES(AND_ONE)
 };
 
-// The kinds from VERDICT on are no rule, and the rules by their numbers.
+// VERDICT counts verdicts without a broken rule, and VERDICT + n verdicts with the rule of the number n.
 enum {
     TABLES = 0, SLICES = 9, IMAGE, ADDRESS, DATA, BOUNDED, NAME, EXPORT, VERDICT,
     KINDS = VERDICT + RULE_COUNT + 1
@@ -122,7 +122,7 @@ static void check_ended(const struct held *held, struct kesvuot_span name) {
     }
 }
 
-// The span is that of the slice from an offset on, of as many bytes as there must be.
+// Checks that the span has the `size` bytes of the slice from `offset` on.
 static void check_part(const struct held *held, struct kesvuot_span span, uint64_t offset, uint64_t size) {
     CHECK(span.size == size);
     CHECK(span.offset == (size == 0 ? 0 : held->image.slice.offset + offset));
@@ -489,7 +489,7 @@ struct edge {
 struct node {
     struct part said; // of a name that ends at the node
     unsigned count;   // how many edges it has
-    unsigned whole;   // how many of these are read: those before the first that does not end in the trie
+    unsigned whole;   // how many are read: all before the first that does not end in the trie
     size_t edges_at;  // the offset of the first
     size_t size;      // up to the end of the last one that is read
     struct edge edges[255];
@@ -593,7 +593,7 @@ static bool is_span(struct kesvuot_span one, struct kesvuot_span other) {
     return one.offset == other.offset && one.size == other.size;
 }
 
-// What it says as the library has to write it.
+// The export that `said` describes, as the library has to write it.
 static bool read_said(const struct held *held, struct part said, struct kesvuot_export *wanted) {
     const uint64_t base = held->image.base;
     struct part name;
@@ -661,7 +661,7 @@ static unsigned check_edges(const struct held *held, struct kesvuot_span trie, c
     return (unsigned)count;
 }
 
-// The bytes of a span, none of which are read where it does not lie in the file.
+// The bytes of a span, or no bytes if it does not lie in the file.
 static struct part part_of(const struct held *held, struct kesvuot_span span) {
     const bool is_inside = span.offset <= held->file.size && span.size <= held->file.size - span.offset;
     return is_inside ? (struct part){bytes_at(held, span), (size_t)span.size} : (struct part){held->file.bytes, 0};
@@ -704,7 +704,7 @@ static void check_any_edges(const struct held *held, struct kesvuot_span trie, s
     }
 }
 
-// The export trie of any image. It has bytes, which lie in the slice, or there is none.
+// The export trie of any image: at least one byte, all in the slice, or an empty span without a trie.
 static struct kesvuot_span find_trie(const struct held *held) {
     struct kesvuot_span trie = {1, 1};
     const uint32_t status = kesvuot_find_export_trie(OF(held), &trie);
@@ -920,7 +920,7 @@ static void check_all_bounded(const struct held *held, const struct rows *comman
     }
 }
 
-// The version of the sources is that of the first command which is long enough.
+// The version of the sources is in the first LC_SOURCE_VERSION that is long enough.
 static void check_source_version(const struct held *held, const struct rows *commands) {
     const struct kesvuot_command *row = commands->rows, *end = row + commands->count;
     uint64_t version = 1, wanted = 0;
@@ -980,7 +980,7 @@ static uint32_t check_name(const struct held *held, uint32_t strx) {
     return status;
 }
 
-// The names of a batch are those of the single calls.
+// A batch has the names that single calls give.
 static void check_names(const struct held *held, const struct kesvuot_symbol *rows, size_t count) {
     struct kesvuot_span names[BATCH_OF_NAMES], name;
     CHECK(kesvuot_read_names(OF(held), rows, count, names, BATCH_OF_NAMES) == count);
@@ -1279,7 +1279,7 @@ static void check_image(const struct held *held, uint32_t accepted) {
     check_lies(held);
 }
 
-// No field is written but those of a slice that is not read, or none at all.
+// All fields are 0, except the slice and its architecture if there is a slice.
 static void check_unread(const struct kesvuot_image *image, bool has_slice) {
     struct kesvuot_image wanted = {.base = 0};
     if (has_slice) {
@@ -1511,7 +1511,7 @@ int LLVMFuzzerTestOneInput(const uint8_t *data, size_t size) {
         return -1;
     }
     uint8_t *last = room + ROOM_SIZE - size;
-    // libFuzzer has no bytes to read where there are none.
+    // With the size 0 libFuzzer has no bytes to read.
     if (size > 0) {
         memcpy(room, data, size);
     }
@@ -1552,7 +1552,7 @@ static uint64_t some_number(uint64_t *state, const uint8_t *data, size_t size, s
     }
 }
 
-// Half of the mutants are those of libFuzzer. The others have a number of 4 or 8 bytes set.
+// libFuzzer makes half of the mutants. The others have a number of 4 or 8 bytes set.
 size_t LLVMFuzzerCustomMutator(uint8_t *data, size_t size, size_t max_size, unsigned seed) {
     uint64_t state = seed;
     if (size < 8 || next_random(&state) % 2 == 0) {

@@ -566,7 +566,7 @@ def compare_image(found, wanted):
     yield "indirects", list(found.indirects), wanted_indirects(wanted)
     yield from compare_groups(found, wanted)
     yield from compare_lookups(found, wanted)
-    # A number that is not of 32 bits is no cmd.
+    # A cmd is a number of 32 bits, so no command has -1 or 0x1_0000_0026.
     for cmd in {command.cmd for command in wanted.commands} | set(DATA_COMMANDS) | {-1, 0x1_0000_0026}:
         data = found.linkedit(cmd)
         yield f"linkedit {cmd:#x}", None if data is None else data.tobytes(), wanted_data(wanted, cmd)

@@ -23,7 +23,7 @@ enum { STANDARD_OUTPUT = 1, INPUT_OUTPUT_ERROR = 5 };
 
 static long growths, reads, writes;
 
-// The number that a word of the environment has, and 0 where there is none.
+// The number in a variable of the environment, or 0 if it is not set.
 static long number_in(const char *name) {
     const char *word = getenv(name);
     return word ? strtol(word, 0, 10) : 0;

@@ -374,7 +374,7 @@ class Dyld:
         for k in range(count):
             raw = self.number_at(first + k * size, size)
             ordinal = raw % (1 << bits)
-            # The ordinals up to 0xf0, or 0xfff0, are those of libraries.
+            # The ordinals up to 0xf0, or 0xfff0, count libraries.
             if ordinal > (1 << bits) - 16:
                 ordinal -= 1 << bits
             name = self.look_up(ordinal, symbols + (raw % (1 << name_end) >> name_bit))

@@ -45,7 +45,7 @@ SIZES_OF_VERSIONS = ((0x20600, 108), (0x20500, 96), (0x20400, 88), (0x20300, 64)
                      (0x20000, 44))
 HASH_SIZES = {1: 20, 2: 32, 3: 20, 4: 48}
 HASH_FUNCTIONS = {1: hashlib.sha1, 2: hashlib.sha256, 3: hashlib.sha256, 4: hashlib.sha384}
-# The slots of blobs of which a directory has a hash end before this one.
+# A directory has hashes only of blobs in slots before this one.
 LEAST_OTHER_SLOT = 0x1000
 # The number 1 of 32 bits is shifted no further.
 MOST_SHIFTED = 31

@@ -35,9 +35,10 @@ SHOWN = 20
 # A file is mutated up to this length: of a longer one most of the time is the layout's.
 MOST_BYTES = 200_000
 
-# What is judged: the name, the vectors, what is done with an image, the name of the rules in the oracle, those of them
-# without which no vector breaks the promise, the change of a mutant, what of a file can be changed, and the case of
-# files that are wrongly judged. Where `is_exact` is true all files that keep the promise are accepted.
+# A profile: its name, its vectors, what is done with an image, and the name of its rules in the oracle. Without the
+# rules of `unneeded`, still no vector breaks the promise. `change` changes a mutant, `parts` has what of a file can be
+# changed, and `wrong` is the case of files that are wrongly judged. If `is_exact`, all files that keep the promise are
+# accepted.
 Profile = namedtuple("Profile", "name vectors load rules unneeded change parts wrong is_exact")
 
 # The oracle, which is loaded first.

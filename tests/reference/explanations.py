@@ -65,7 +65,7 @@ def explain(data: bytes, rule: str, place: int) -> Explanation:
     if name in OF_FILE:
         found = OF_FILE[name](file, place)
         return found._replace(value=most(found.value), limit=most(found.limit))
-    # The place of these rules can be just past the slice.
+    # The place of command-walk and export-node can be just past the slice.
     index = slice_with(file, place - (rule in ("command-walk", "export-node")))
     image = file.slices[index]
     found = OF_IMAGE[name](image, place - image.start)

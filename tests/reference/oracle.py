@@ -75,7 +75,7 @@ STRUCTURES = {
     "source_version_command": "u32 cmd  u32 cmdsize  u64 version",
     "linker_option_command": "u32 cmd  u32 cmdsize  u32 count",
     "target_triple_command": "u32 cmd  u32 cmdsize  u32 triple",
-    # What a thread_command has, again and again, each time with `count` words after it.
+    # A thread_command repeats this structure, each time with `count` words after it.
     "thread_state": "u32 flavor  u32 count",
     "data_in_code_entry": "u32 offset  u16 length  u16 kind",
     # mach-o/nlist.h
@@ -88,7 +88,7 @@ STRUCTURES = {
     "dyld_chained_starts_in_image": "u32 seg_count",
     "dyld_chained_starts_in_segment": "u32 size  u16 page_size  u16 pointer_format  u64 segment_offset"
                                       "  u32 max_valid_pointer  u16 page_count",
-    # kern/cs_blobs.h. Big-endian. A directory of an older version ends before some of these fields.
+    # kern/cs_blobs.h. Big-endian. A directory of an older version ends before some fields.
     "CS_SuperBlob": "u32 magic  u32 length  u32 count",
     "CS_BlobIndex": "u32 type  u32 offset",
     "CS_GenericBlob": "u32 magic  u32 length",
@@ -235,17 +235,17 @@ LC_LAZY_LOAD_DYLIB = 0x20
 # The kinds of data in code, from DICE_KIND_DATA up to and including DICE_KIND_ABS_JUMP_TABLE32.
 DICE_KINDS = range(1, 6)
 
-# Code signatures: the magic numbers; the slots of directories, of which there can be five alternate ones, and the
-# special slots; the least version, and how many bytes the fields have of a version and of those up to the next; the
-# versions from which some of the fields are there; the bytes of a hash, by its type, and its name and how it is made;
-# the greatest logarithm of a page's bytes; and how many bytes of the hash of a directory are printed.
+# Code signatures: the magic numbers of a superblob and a directory.
 CSMAGIC_EMBEDDED_SIGNATURE, CSMAGIC_CODEDIRECTORY = 0xfade0cc0, 0xfade0c02
+# The slots of directories, with up to five alternate ones, and the special slots.
 DIRECTORY_SLOTS = (0, *range(0x1000, 0x1005))
 SPECIAL_SLOTS = range(1, 0x1000)
+# The least version, the bytes of the fields by the first version with so many, and the versions that bring some fields.
 LEAST_VERSION = 0x20000
 FIELDS_SIZES = {0: 44, 0x20100: 48, 0x20200: 52, 0x20300: 64, 0x20400: 88, 0x20500: 96, 0x20600: 108}
 CS_SUPPORTSSCATTER, CS_SUPPORTSTEAMID, CS_SUPPORTSCODELIMIT64 = 0x20100, 0x20200, 0x20300
 CS_SUPPORTSEXECSEG, CS_SUPPORTSRUNTIME, CS_SUPPORTSLINKAGE = 0x20400, 0x20500, 0x20600
+# By the type of a hash: its bytes, its name, and how it is made.
 HASH_SIZES = {1: 20, 2: 32, 3: 20, 4: 48}
 HASHES = {
     1: ("sha1", hashlib.sha1),
@@ -253,6 +253,7 @@ HASHES = {
     3: ("sha256-truncated", hashlib.sha256),
     4: ("sha384", hashlib.sha384),
 }
+# The greatest logarithm of a page's bytes, and how many bytes of the hash of a directory are printed.
 GREATEST_PAGE_SIZE = 31
 CS_CDHASH_LEN = 20
 # The magic numbers of the blobs in the slots that readers know: directories, requirements, entitlements in two forms,
@@ -309,7 +310,7 @@ SYMBOL_TABLES = {
     for *_, command in rows
 }
 
-# The opcodes of the rebase stream and those of the others, by their bytes: the name, and the operands.
+# The opcodes of the rebase stream, and of the other streams, by their bytes: the name, and the operands.
 REBASE_OPCODES, BIND_OPCODES = [
     {int(byte, 16): (opcode, operands.replace(",", "").split())
      for opcode, byte, operands in rows_of(r"^\| `(%s_OPCODE_\w+)` \| (0x\w0) \|([a-z, ]*)\|" % family, "linked")}
@@ -553,7 +554,7 @@ def fat_slice_in_table(file):
 def fat_align(file):
     """2^`align` does not divide `offset`."""
     for entry in file.entries:
-        # `offset` is neither 0 nor 2^64 or more, so 2^64 does not divide it, nor does any greater power.
+        # `offset` is above 0 and below 2^64, so neither 2^64 nor a greater power divides it.
         if entry.offset % 2 ** min(entry.align, 64) != 0:
             yield entry.place
 
@@ -869,7 +870,7 @@ def stray_byte(image):
 
 def encrypted_range(image):
     """`cryptsize` > 0, and `cryptoff` is in the headers, or the range is not among the file bytes of one segment."""
-    # No two segments share a byte, so of those that begin at `cryptoff` or before it only the last can have the range.
+    # No two segments share a byte, so only the last segment that begins at or before `cryptoff` can have the range.
     parts = sorted((segment.fileoff, segment.filesize) for segment in image.segments if segment.filesize > 0)
     for command in image.listed:
         if command.cmd == LC_ENCRYPTION_INFO_64 and command.cryptsize > 0:
@@ -1514,7 +1515,7 @@ def is_relative(export):
 
 def export_address(image):
     """The base + the address, or the base + the resolver, is in no segment."""
-    # No two segments share an address, so of those that begin at the address or before it only the last can have it.
+    # No two segments share an address, so only the last segment that begins at or before the address can have it.
     mapped = sorted((segment.vmaddr, segment.vmaddr + segment.vmsize) for segment in image.segments if is_mapped(segment))
     starts = [start for start, _ in mapped]
     for export in filter(is_relative, exports(image)):
@@ -1552,7 +1553,7 @@ def function_number(image):
 
 def function_start(image):
     """The base + the numbers up to and including this one is in no file part that is mapped."""
-    # No two segments share an address, so of those that begin at the address or before it only the last can have it.
+    # No two segments share an address, so only the last segment that begins at or before the address can have it.
     mapped = sorted(filter(is_mapped, image.segments), key=lambda segment: segment.vmaddr)
     starts = [segment.vmaddr for segment in mapped]
     address = image.base
@@ -1572,7 +1573,7 @@ def data_in_code(image):
     if (table.end - table.start) % SIZES["data_in_code_entry"] != 0:
         yield table.start
         return
-    # No two segments share a byte, so of those that begin at the offset or before it only the last can have it.
+    # No two segments share a byte, so only the last segment that begins at or before the offset can have it.
     code = sorted((segment.fileoff, segment.fileoff + segment.filesize) for segment in image.segments
                   if segment.initprot & VM_PROT_EXECUTE and segment.filesize > 0)
     starts = [start for start, _ in code]
@@ -1587,7 +1588,7 @@ def data_in_code(image):
 def init_offset(image):
     """The size of the section is not a multiple of 4, so the last offset is cut; or the base plus the offset is not in the
     file part of a mapped and executable segment."""
-    # No two segments share an address, so of those that begin at the address or before it only the last can have it.
+    # No two segments share an address, so only the last segment that begins at or before the address can have it.
     code = sorted((segment for segment in image.segments if is_mapped(segment) and segment.initprot & VM_PROT_EXECUTE),
                   key=lambda segment: segment.vmaddr)
     starts = [segment.vmaddr for segment in code]
