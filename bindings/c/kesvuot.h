@@ -562,9 +562,9 @@ struct kesvuot_command {       /* load_command */
 
 /* How to read `type` and `desc`, by the constants of <mach-o/nlist.h> below, such as KESVUOT_N_STAB:
  * - If `type & N_STAB` is not 0, it is a debugging entry. Its `type` says which, and nothing of the following holds.
- * - `type & N_TYPE` is N_UNDF or N_PBUD if another image defines it (an external N_UNDF with another value than 0 is a
- *   common symbol of so many bytes), N_SECT if it is defined in a section, N_ABS if its value is a number that no slide
- *   changes, N_INDR if it stands for another symbol, or any other number.
+ * - `type & N_TYPE` is N_UNDF or N_PBUD if another image defines it, and N_SECT if it is defined in a section. But an
+ *   external N_UNDF with another value than 0 is a common symbol of so many bytes. N_ABS: its value is a number that no
+ *   slide changes. N_INDR: it stands for another symbol. Or it is any other number.
  * - `type & N_EXT`: it is external. `type & N_PEXT`: it was external, and a linker has made it private.
  * - `desc` of an undefined symbol. N_WEAK_REF: it may be missing when the image is loaded. `desc >> 8` is the ordinal
  *   of a library, if `flags` of the image have MH_TWOLEVEL, and the type is N_PBUD, or N_UNDF with the value 0. It is
@@ -776,7 +776,7 @@ uint32_t kesvuot_find_name(const void *file, size_t size, const struct kesvuot_i
  * otherwise by LC_DYLD_INFO or LC_DYLD_INFO_ONLY. It can write a lazy bind as late as the first call through it. The
  * rows are the same: a caller need not know which of the commands the image has.
  *
- * A bind has the index of its import and no name: many pointers can bind one import, and to find the end of its name
+ * A bind has the index of its import and no name. Many pointers can bind one import, and to find the end of its name
  * again for each of them would take more than linear time. Read the imports once, and keep the rows.
  */
 
@@ -894,7 +894,7 @@ struct kesvuot_export {       /* an export. Only the linked profile judges its f
     uint64_t reserved;
 };
 
-/* What an image exports under a name of `name_size` bytes, as a dynamic loader looks it up: at each node of the trie,
+/* What an image exports under a name of `name_size` bytes, as a dynamic loader looks it up. At each node of the trie,
  * the first edge whose string begins the rest of the name leads on. kesvuot_find_export_trie says where the trie is.
  * Addresses count from `base` of the image, which is 0 if it has none.
  * OK: the export is written.
@@ -924,7 +924,7 @@ uint32_t kesvuot_find_export_trie(const void *file, size_t size, const struct ke
  *
  * A node reaches from its offset to the `place` of its cursor past its last edge. In a file that the linked profile
  * accepts, the visited nodes, each counted as often as it is visited, have no more bytes than the trie. In any other
- * file an edge can lead back, and two edges can lead to one node: there a caller adds up the bytes of the visited
+ * file an edge can lead back, and two edges can lead to one node. There a caller adds up the bytes of the visited
  * nodes, and stops when they have more bytes than the trie. */
 
 struct kesvuot_export_node {       /* a node of an export trie. Only the linked profile judges it */
@@ -950,10 +950,10 @@ struct kesvuot_export_edge {    /* an edge of a node */
 uint32_t kesvuot_read_export_node(const void *file, size_t size, const struct kesvuot_image *image,
                                   const struct kesvuot_span *trie, uint64_t offset, struct kesvuot_export_node *node);
 
-/* The edges of a node, from its cursor on, in batches as of the tables of an image: it writes the next ones, up to
- * `max`, moves the cursor past them, and returns how many it wrote. It stops before an edge whose label or number does
- * not end in the trie: then `items` of the cursor is not 0, and fewer than max were written. A cursor of zeros has no
- * edges. */
+/* The edges of a node, from its cursor on, in batches as of the tables of an image. The call writes the next edges, up
+ * to `max`, moves the cursor past them, and returns how many it wrote. It stops before an edge whose label or number
+ * does not end in the trie: then `items` of the cursor is not 0, and fewer than max were written. A cursor of zeros has
+ * no edges. */
 size_t kesvuot_read_export_edges(const void *file, size_t size, const struct kesvuot_span *trie,
                                  struct kesvuot_cursor *cursor, struct kesvuot_export_edge *rows, size_t max);
 
@@ -1007,9 +1007,9 @@ uint32_t kesvuot_find_source_version(const void *file, size_t size, const struct
 /* The address at which the first LC_THREAD or LC_UNIXTHREAD begins, before any slide: rip or pc of its registers. It is
  * the entry of a program that has no LC_MAIN, such as one that Go links, or one for no dynamic linker.
  * OK: the address, which is in an executable segment, and the file has a byte for it.
- * NONE: the image has no such command, its states do not end where it ends, not exactly one of them has registers that
- * are known for the cputype, or the file has no byte that can be executed at the address. In a file that was not
- * accepted, also if the headers break a rule. The entry is 0.
+ * NONE: the image has no such command, its states do not end where it ends, or the file has no byte that can be
+ * executed at the address. Also if no state, or more than one, has registers that are known for the cputype. In a file
+ * that was not accepted, also if the headers break a rule. The entry is 0.
  * In a file that the linked profile accepts, each image with an LC_THREAD or LC_UNIXTHREAD has the address, and no
  * second thread. In any other file a loader may obey another thread. */
 uint32_t kesvuot_find_thread_entry(const void *file, size_t size, const struct kesvuot_image *image, uint64_t *entry);
