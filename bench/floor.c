@@ -1,7 +1,7 @@
-// Decides what macho-check decides of standard input, and prints the same text with the same status: the layout of a
-// file that breaks no rule of docs/rules (status 0), or the first rule that is broken and its place (status 1).
+// Decides what macho-check decides of standard input, and prints the same text with the same status. The text is the
+// layout of a file that breaks no rule of docs/rules (status 0), or the first broken rule and its place (status 1).
 //
-//     tests/reference/rules_tables.py >rules_tables.h && cc -std=c99 -O2 -I. -o floor bench/floor.c
+//     (cd tests && python3 -m reference.rules_tables) >rules_tables.h && cc -std=c99 -O2 -I. -o floor bench/floor.c
 //     ./floor [--strict] <FILE
 //
 // With --strict it decides what macho-verify decides by the strict profile. It has no linked and no sealed rules.
@@ -277,8 +277,8 @@ struct span {
 #define NOWHERE UINT64_MAX
 
 // What is known of spans that come one after another, by ascending places. As long as they ascend or descend, no two
-// share a number. If the first span that breaks this order shares a number with the latest span before it, its place is
-// the answer: no span at a lesser place shares a number with an earlier span, and nothing has to be sorted.
+// share a number. The first span that breaks this order may share a number with the latest span before it. Then no span
+// at a lesser place shares a number with an earlier one: its place is the answer, and nothing has to be sorted.
 struct order {
     uint64_t count;
     bool ascends, descends;

@@ -1,6 +1,6 @@
 // Times the library on mapped files, and compares it with the same verdict written by hand in C and with a plain walk.
 //
-//     tests/reference/rules_tables.py >rules_tables.h
+//     (cd tests && python3 -m reference.rules_tables) >rules_tables.h
 //     cc -std=c99 -O2 -I. -I bindings/c -o library bench/library.c build/lib/libkesvuot.a
 //     ./library ROUNDS FILE
 //
