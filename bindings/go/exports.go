@@ -17,8 +17,8 @@ type Exports struct {
 	export  Export
 }
 
-// A waitingNode is a node that is to be met: its offset in the trie, how many bytes of the name of the node before it
-// lead to it, and the label that follows them.
+// A waitingNode is a node that is left to visit: its offset in the trie, how many bytes of the name of the node before
+// it lead to it, and the label that follows them.
 type waitingNode struct {
 	offset uint64
 	shared int

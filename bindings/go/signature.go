@@ -34,7 +34,7 @@ func (image *Image) Blobs() []Blob {
 
 // A CodeDirectory is a CS_CodeDirectory of <kern/cs_blobs.h>: what was signed, and the hashes of its pages. In a file
 // that the linked profile accepts, the names and the hashes lie in the blob, the type of the hashes is known, and Limit
-// is where the signature begins in the image: there is a hash for each page before that. The sealed profile judges
+// is where the signature begins in the image. So there is a hash for each page before that. The sealed profile judges
 // whether the pages have these hashes.
 type CodeDirectory struct {
 	// Bytes are the whole blob, with its magic and its length.

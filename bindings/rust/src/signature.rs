@@ -56,10 +56,9 @@ impl<'a> Blob<'a> {
 
 /// A code directory: what was signed, and the hashes of its pages. (`CS_CodeDirectory` of `<kern/cs_blobs.h>`)
 ///
-/// In a file that [`Profile::Linked`](crate::Profile::Linked) accepts, the names and the hashes lie in the blob,
-/// the type of the hashes is known, and `limit` is where the signature begins in the image: there is a hash for
-/// each page before that. That the pages have these hashes is what
-/// [`Profile::Sealed`](crate::Profile::Sealed) judges.
+/// In a file that [`Profile::Linked`](crate::Profile::Linked) accepts, the names and the hashes lie in the blob, the
+/// type of the hashes is known, and `limit` is where the signature begins in the image. So there is a hash for each
+/// page before that. That the pages have these hashes is what [`Profile::Sealed`](crate::Profile::Sealed) judges.
 #[derive(Clone, Copy, PartialEq, Eq)]
 #[non_exhaustive]
 pub struct CodeDirectory<'a> {
