@@ -265,11 +265,11 @@ struct kesvuot_text {
     size_t size;
 };
 
-/* The name of a rule, such as "section-file". The rule of a verdict has one after REFUSED.
+/* The name of a rule, such as "section-file". After REFUSED the rule of the verdict has a name.
  * OK: the name is written. NONE: no rule has this number, and the name is empty: do not read through `at`. */
 uint32_t kesvuot_find_rule(uint32_t rule, struct kesvuot_text *name);
 
-/* The same as a string, or a null pointer if no rule has this number. */
+/* The name of a rule as a string, or a null pointer if no rule has this number. */
 static inline const char *kesvuot_rule_name(uint32_t rule) {
     struct kesvuot_text name;
     return kesvuot_find_rule(rule, &name) == KESVUOT_OK ? name.at : NULL;
@@ -282,7 +282,7 @@ uint32_t kesvuot_rule_profile(uint32_t rule);
  * OK: the name is written. NONE: no profile has this number, and the name is empty: do not read through `at`. */
 uint32_t kesvuot_find_profile(uint32_t profile, struct kesvuot_text *name);
 
-/* The same as a string, or a null pointer if no profile has this number. */
+/* The name of a profile as a string, or a null pointer if no profile has this number. */
 static inline const char *kesvuot_profile_name(uint32_t profile) {
     struct kesvuot_text name;
     return kesvuot_find_profile(profile, &name) == KESVUOT_OK ? name.at : NULL;
@@ -294,7 +294,7 @@ static inline const char *kesvuot_profile_name(uint32_t profile) {
 uint32_t kesvuot_find_command(uint32_t cmd, struct kesvuot_text *name);
 uint32_t kesvuot_find_platform(uint32_t platform, struct kesvuot_text *name);
 
-/* The same as strings, or null pointers. */
+/* The name as a string, or a null pointer if the library knows no name for the number. */
 static inline const char *kesvuot_command_name(uint32_t cmd) {
     struct kesvuot_text name;
     return kesvuot_find_command(cmd, &name) == KESVUOT_OK ? name.at : NULL;
@@ -399,13 +399,13 @@ uint32_t kesvuot_explain(const void *file, size_t size, const struct kesvuot_ver
  * OK: the name is written. NONE: the library knows no name for the numbers, and the name is empty. */
 uint32_t kesvuot_find_arch(uint32_t cputype, uint32_t cpusubtype, struct kesvuot_text *name);
 
-/* The same as a string, or a null pointer. */
+/* The name as a string, or a null pointer if the library knows no name for the numbers. */
 static inline const char *kesvuot_arch_name(uint32_t cputype, uint32_t cpusubtype) {
     struct kesvuot_text name;
     return kesvuot_find_arch(cputype, cpusubtype, &name) == KESVUOT_OK ? name.at : NULL;
 }
 
-/* The architecture with this name, of `name_size` bytes: the numbers for which kesvuot_find_arch has it.
+/* The architecture with this name, of `name_size` bytes: the numbers for which kesvuot_find_arch gives it.
  * OK: the numbers are written, the cpusubtype without a capability byte. No other architecture has the name.
  * NONE: the library knows no architecture with this name, and both numbers are 0. */
 uint32_t kesvuot_arch_named(const void *name, size_t name_size, uint32_t *cputype, uint32_t *cpusubtype);
@@ -706,7 +706,8 @@ uint32_t kesvuot_read_code_directory(const void *file, size_t size, const struct
                                      struct kesvuot_code_directory *directory);
 
 /* The hash of a code directory, by `bytes` of its blob: of the whole blob, with its magic and its length, by the
- * directory's own type of hashes. Neither the slot of the blob matters, nor what the directory says of the code.
+ * directory's own type of hashes. The slot of the blob does not matter, and what the directory says of the code does
+ * not either.
  * OK: all fields are written.
  * NONE: kesvuot_read_code_directory returns NONE for the blob, or its hash_type is not known. All fields are 0.
  * In a file that the linked profile accepts, each blob in a slot of code directories has a hash. The hash is about the
@@ -748,14 +749,14 @@ size_t kesvuot_read_names(const void *file, size_t size, const struct kesvuot_im
 size_t kesvuot_index_symbols(const void *file, size_t size, const struct kesvuot_image *image, uint32_t *index,
                              size_t max);
 
-/* The nearest symbol at or before an address, before any slide, by an index that kesvuot_index_symbols has written. Of
- * several symbols at one address it is the last in the table. It may be of another section than the address, or its end
- * may be before the address: the format has no sizes of symbols.
+/* The nearest symbol at or before an address, before any slide, by an index that kesvuot_index_symbols has written. If
+ * several symbols are at one address, it is the last of them in the table. It may be of another section than the
+ * address, or its end may be before the address: the format has no sizes of symbols.
  * OK: the symbol, and in `at` the position of its entry: index[at] is its index in the table.
  * NONE: no symbol of the index begins at or before the address. All fields are 0, except `section`, which is
  * KESVUOT_NO_SECTION.
- * With any other numbers in the index, the call finds an entry whose symbol begins at or before the address, while the
- * next entry's, if there is one, does not. It makes a binary search, and reads no load commands. */
+ * With any other numbers in the index, the call finds an entry whose symbol begins at or before the address. The symbol
+ * of the next entry, if there is one, does not. It makes a binary search, and reads no load commands. */
 uint32_t kesvuot_find_symbol(const void *file, size_t size, const struct kesvuot_image *image, const uint32_t *index,
                              size_t count, uint64_t address, struct kesvuot_symbol *symbol, size_t *at);
 
@@ -868,7 +869,7 @@ size_t kesvuot_read_fixups(const void *file, size_t size, const struct kesvuot_i
                            struct kesvuot_fixup_cursor *cursor, struct kesvuot_fixup *rows, size_t max);
 
 /* The imports, to which pointers are bound, in batches as of the tables of an image. By opcodes: a row for each opcode
- * that binds a pointer, of the bind, the weak bind and the lazy bind stream in turn. Two rows can have one name. A
+ * that binds a pointer, of the bind, the weak bind and the lazy bind stream in turn. Two rows can have the same name. A
  * stream ends where kesvuot_read_fixups says.
  *
  * By chains: the imports of the table. In a file that linked refuses, the call writes no rows if chain-header is
