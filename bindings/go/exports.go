@@ -1,7 +1,7 @@
 package kesvuot
 
-// Exports iterates over what an image exports, in the order in which a walk over the export trie meets it. The tables are
-// slices, but the names of exports can be together far longer than the file.
+// Exports iterates over what an image exports, in the order in which a walk over the export trie visits it. The tables
+// are slices, but the names of exports can be together far longer than the file.
 //
 //	for exports := image.Exports(); exports.Next(); {
 //		name, export := exports.Name(), exports.Export()
@@ -9,7 +9,7 @@ package kesvuot
 type Exports struct {
 	image *Image
 	trie  span
-	// How many bytes the nodes that are not yet met may have.
+	// How many bytes the nodes that are left to visit may have.
 	left uint64
 	// The last one is next.
 	waiting []waitingNode
@@ -58,8 +58,8 @@ func (exports *Exports) Next() bool {
 	return false
 }
 
-// meet reads a node, and puts its children before those that wait. It is not ok if the node does not end in the trie, or
-// if the nodes that were met have more bytes than the trie.
+// meet reads a node, and puts its children before those that wait. It is not ok if the node does not end in the trie,
+// or if the visited nodes have more bytes than the trie.
 func (exports *Exports) meet(offset uint64) (node exportNodeRow, ok bool) {
 	node, ok = readExportNode(exports.image, exports.trie, offset)
 	if !ok {

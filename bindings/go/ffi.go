@@ -249,13 +249,13 @@ const (
 	bindKind    = C.KESVUOT_BIND
 )
 
-// partOf returns the bytes of a span, which has a capacity of no more than these.
+// partOf returns the bytes of a span, without spare capacity: to append to them copies them.
 func partOf(file []byte, span span) []byte {
 	end := span.offset + span.size
 	return file[span.offset:end:end]
 }
 
-// A table is one whose rows a call writes.
+// A table names the call that writes its rows.
 type table = C.enum_table
 
 const (

@@ -103,7 +103,7 @@ func newFixup(row *fixupRow) Fixup {
 }
 
 // Imports returns what the binds among the Fixups are bound to. Chained fixups have a table of them. Each opcode that
-// binds pointers has a row, so two rows can have one name.
+// binds pointers has a row, so two rows can have the same name.
 func (image *Image) Imports() []Import {
 	rows := readImports(image)
 	imports := make([]Import, len(rows))

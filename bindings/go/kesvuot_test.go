@@ -769,7 +769,7 @@ func TestWalksOfExports(t *testing.T) {
 			[]string{"_a", "_b"}, []uint64{0x10, 0x20}},
 		// The root, which is the whole trie, exports the empty name, and leads to itself.
 		{"\x02\x00\x07\x01a\x00\x00", []string{""}, []uint64{7}},
-		// Two edges lead to one node of 4 bytes, and the nodes that are met have 16 bytes, of a trie of 13.
+		// Two edges lead to one node of 4 bytes: the visited nodes have 16 bytes, and the trie has 13.
 		{"\x00\x02a\x00\x09b\x00\x09\x00" + "\x02\x00\x07\x00", []string{"a"}, []uint64{7}},
 		// The first edge is whole, and the second does not end in the trie.
 		{"\x00\x02a\x00\x05b", nil, nil},

@@ -220,15 +220,15 @@ type Export struct {
 	// Flags are bits of EXPORT_SYMBOL_FLAGS_.., or any other number. With EXPORT_SYMBOL_FLAGS_KIND_MASK it is a regular
 	// symbol, a thread-local one or an absolute one.
 	Flags uint64
-	// Address is one before any slide, and can be in no segment. It is 0 of a re-export (EXPORT_SYMBOL_FLAGS_REEXPORT).
+	// Address is before any slide, and can be in no segment. It is 0 in a re-export (EXPORT_SYMBOL_FLAGS_REEXPORT).
 	Address uint64
 	// Resolver is the address of the function that finds the one to call, if the flags have
 	// EXPORT_SYMBOL_FLAGS_STUB_AND_RESOLVER. Address is then the address of a stub. Resolver is 0 in all other exports.
 	Resolver uint64
-	// Ordinal is which of the Libraries has the symbol of a re-export, counted from 1 on, or any other number. It is 0 of
-	// all others.
+	// Ordinal is which of the Libraries has the symbol of a re-export, counted from 1 on, or any other number. It is 0 in
+	// all other exports.
 	Ordinal uint64
-	// Name is the name of a re-export there, empty if that is the same. All others have none.
+	// Name is the name of a re-export in its library, empty if it is the same. It is empty in all other exports.
 	Name []byte
 }
 

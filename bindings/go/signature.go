@@ -64,7 +64,8 @@ type CodeDirectory struct {
 
 // CodeDirectory returns what the blob says, if it is a code directory. Its slot does not matter. It is not ok if the
 // blob has another magic, a version below 0x20000, fewer bytes than the fields of its version, or a scatter vector. In
-// a file that the linked profile accepts, each blob in a slot of code directories (0, 0x1000 to 0x1004) is one.
+// a file that the linked profile accepts, each blob in a slot of code directories (0, 0x1000 to 0x1004) is a code
+// directory.
 func (blob *Blob) CodeDirectory() (directory CodeDirectory, ok bool) {
 	row, ok := readDirectory(blob.Bytes)
 	if !ok {

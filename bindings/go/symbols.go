@@ -2,7 +2,7 @@ package kesvuot
 
 // A Symbol is an nlist_64. The methods Name, OtherName and LibraryOf of its Image say more of it.
 type Symbol struct {
-	// Value is the address of a symbol that is defined in a section. Of an indirect symbol it is an offset in the strings.
+	// Value is the address of a symbol that is defined in a section. In an indirect symbol it is an offset in the strings.
 	Value uint64
 	// Strx is 0 if the symbol has no name.
 	Strx uint32
@@ -184,8 +184,8 @@ func (image *Image) symbols(first, count uint64) []Symbol {
 // 4 * Strsize.
 func (image *Image) Name(symbol Symbol) []byte { return readName(image, symbol.Strx) }
 
-// Names returns the names of symbols, as Name returns each, in less time. What Name says of hostile files holds here
-// too: pass few symbols at once.
+// Names returns the names of symbols, as Name returns each, in less time. Hostile files are as slow as with Name: pass
+// few symbols at once.
 func (image *Image) Names(symbols []Symbol) [][]byte {
 	names := make([][]byte, 0, len(symbols))
 	for len(symbols) > 0 {

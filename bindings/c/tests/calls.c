@@ -152,7 +152,7 @@ static void try_names_of_numbers(void) {
     try_profile(UINT32_MAX, NULL);
 }
 
-// The same verdict by all profiles from one to another.
+// Expects one verdict by all profiles from `first` to `last`.
 static void try_verdict(uint32_t first, uint32_t last, const void *bytes, size_t size, int status,
                         struct kesvuot_verdict wanted) {
     for (uint32_t profile = first; profile <= last; profile++) {
@@ -414,7 +414,7 @@ static void try_tables(const struct kesvuot_image *image) {
     try_table(read_indirects, image, sizeof(uint32_t), image->indirect_count);
 }
 
-// Every symbol of the library has a name. A symbol has none at 0, past the strings, or without strings.
+// Every symbol of the library has a name. A symbol with strx 0, past the strings or without strings has no name.
 static void try_names(const struct kesvuot_image *image) {
     struct kesvuot_image nameless = *image;
     struct kesvuot_symbol rows[ROWS];
@@ -1106,7 +1106,7 @@ static bool begins_at(const uint32_t *words, size_t size, uint64_t wanted) {
     return entry == wanted && status == (wanted ? KESVUOT_OK : KESVUOT_NONE);
 }
 
-// The same, where a word of the image has another value.
+// Whether it begins there if a word of the image has another value.
 static bool begins_with(const struct state *state, size_t word, uint32_t value, uint64_t wanted) {
     uint32_t words[THREAD_WORDS];
     const size_t size = write_thread(words, state, 0x100000020);
@@ -1159,7 +1159,7 @@ static void try_thread_entries(void) {
     CHECK(kesvuot_find_thread_entry(mixed.bytes, mixed.size, &image, &entry) == KESVUOT_NONE && entry == 0);
 }
 
-// A structure of zeros is not an image, and every call returns so. Nor is one whose slice ends past the file.
+// A structure of zeros is not an image, and neither is a structure whose slice ends past the file. Every call says so.
 static void try_no_image(void) {
     struct kesvuot_image none;
     struct kesvuot_span data;

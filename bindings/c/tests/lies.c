@@ -115,7 +115,7 @@ static void take_names(const struct kesvuot_image *image, size_t size) {
         calls++;                                                                  \
     } while (0)
 
-// The same of a table of an image, from any cursor on.
+// TAKE_ROWS for a table of an image, from any cursor on.
 #define TAKE_TABLE(row_type, call, take_row) TAKE_ROWS(row_type, struct kesvuot_cursor, some_cursor(), call, take_row)
 
 // Takes the hash of a blob of any bytes. Only a code directory has a hash.

@@ -11,7 +11,7 @@ use crate::{Export, Image};
 /// The most edges of a node: one byte counts them.
 const MOST_EDGES: usize = 255;
 
-/// The exports of an image with their names, in the order in which a walk over the export trie meets them.
+/// The exports of an image with their names, in the order in which a walk over the export trie visits them.
 ///
 /// A name is any bytes except zeros, and need not be UTF-8. Names in a trie can share their beginnings, so all names
 /// together can be far longer than the trie: a program that keeps the names of a hostile file adds up their sizes.
@@ -19,17 +19,17 @@ const MOST_EDGES: usize = 255;
 pub struct Exports<'a> {
     image: Image<'a>,
     trie: Span,
-    /// How many bytes the nodes that are not yet met may have.
+    /// How many bytes the nodes that are left to visit may have.
     left: u64,
     /// The nodes that wait: the last one is next.
     waiting: Vec<Waiting>,
-    /// The name that leads to the node that was met last.
+    /// The name that leads to the last visited node.
     name: Vec<u8>,
     /// Room for the edges of a node.
     edges: Vec<ExportEdge>,
 }
 
-/// A node that is to be met.
+/// A node that is left to visit.
 #[derive(Clone, Copy)]
 struct Waiting {
     offset: u64,
@@ -61,7 +61,7 @@ impl<'a> Exports<'a> {
     }
 
     /// Reads a node, and puts its children before those that wait. `None` if it does not end in the trie, or if the
-    /// nodes that were met have more bytes than the trie.
+    /// visited nodes have more bytes than the trie.
     fn meet(&mut self, offset: u64) -> Option<ExportNode> {
         let (file, trie) = (self.image.file(), &self.trie);
         let (status, node) = ffi::read_export_node(file, self.image.raw(), trie, offset);

@@ -298,7 +298,7 @@ pub struct Export<'a> {
     pub kind: ExportKind<'a>,
 }
 
-/// What an exported name leads to. An address is one before any slide, and it can be in no segment.
+/// What an exported name leads to. Addresses are before any slide, and can be in no segment.
 #[derive(Clone, Copy, Debug, PartialEq, Eq)]
 #[non_exhaustive]
 pub enum ExportKind<'a> {

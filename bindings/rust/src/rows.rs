@@ -226,7 +226,7 @@ mod tests {
         }
     }
 
-    /// A row that is asked for as another one is: its index.
+    /// A row that has only its index, and is asked for like a row of the table `T`.
     #[derive(Debug, PartialEq)]
     struct Like<T>(u64, PhantomData<T>);
 

@@ -46,7 +46,7 @@ impl<'a> Blob<'a> {
     /// magic, a version below 0x20000, fewer bytes than the fields of its version, or a scatter vector.
     ///
     /// In a file that [`Profile::Linked`](crate::Profile::Linked) accepts, each blob in a slot of code
-    /// directories (0, 0x1000 to 0x1004) is one.
+    /// directories (0, 0x1000 to 0x1004) is a code directory.
     #[must_use]
     pub fn code_directory(&self) -> Option<CodeDirectory<'a>> {
         let (status, raw) = ffi::read_code_directory(self.bytes);

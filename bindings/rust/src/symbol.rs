@@ -14,7 +14,7 @@ use crate::{ffi, Image};
 #[derive(Clone, Copy, Debug, PartialEq, Eq)]
 #[non_exhaustive]
 pub struct Symbol {
-    /// `n_value`: the address of a symbol that is defined in a section, before any slide. Of an indirect
+    /// `n_value`: the address of a symbol that is defined in a section, before any slide. In an indirect
     /// symbol it is an offset in the string table.
     pub value: u64,
     /// `n_strx`: where the name begins in the string table, or 0 if it has none.
@@ -57,8 +57,8 @@ pub enum SymbolKind {
 /// Where a dynamic loader looks a symbol up.
 #[derive(Clone, Copy, Debug, PartialEq, Eq, Hash)]
 pub enum SymbolLibrary {
-    /// The library with this index in [`Image::libraries`]. In a file that
-    /// [`Profile::Linked`](crate::Profile::Linked) accepts there is one. In any other it can be past the last.
+    /// The library with this index in [`Image::libraries`]. In a file that [`Profile::Linked`](crate::Profile::Linked)
+    /// accepts the library exists. In any other file the index can be past the last library.
     Index(usize),
     /// The image itself (`SELF_LIBRARY_ORDINAL`).
     ThisImage,

@@ -112,7 +112,7 @@ fn a_walk_ends_on_any_bytes() {
         walked(&itself),
         [(String::new(), ExportKind::Regular(base + 7))]
     );
-    // Two edges lead to one node of 4 bytes, and the nodes that are met have 16 bytes, of a trie of 13.
+    // Two edges lead to one node of 4 bytes: the visited nodes have 16 bytes, and the trie has 13.
     let twice = with_trie(b"\x00\x02a\0\x09b\0\x09\0\x02\x00\x07\x00");
     assert_eq!(
         walked(&twice),

@@ -104,7 +104,7 @@ fn pointers<'a>(
     })
 }
 
-/// The same of an image whose pointers are not signed.
+/// The pointers of an image without signed pointers.
 fn unsigned(image: &Image) -> Vec<Pointer> {
     let all = pointers(image.fixups());
     all.map(|(pointer, authentication)| {
@@ -114,7 +114,7 @@ fn unsigned(image: &Image) -> Vec<Pointer> {
     .collect()
 }
 
-/// Of the imports the name, the library, the addend, and whether they are weak.
+/// The name, the library and the addend of each import, and whether it is weak.
 fn imports<'a>(image: &Image<'a>) -> Vec<(&'a [u8], i64, i64, bool)> {
     let all = image.imports();
     all.map(|it: Import| (it.name, it.library, it.addend, it.is_weak))

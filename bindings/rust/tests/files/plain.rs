@@ -616,7 +616,7 @@ fn export_of(mut said: &[u8], base: u64) -> Option<(u64, ExportKind<'_>)> {
     Some((flags, kind))
 }
 
-/// All that a trie exports, as far as it is one.
+/// Compares all that a trie exports, up to the first malformed node.
 fn compare_exports(image: &Image, commands: &[Plain]) {
     let info = DYLD_INFOS.iter().find_map(|&cmd| first_of(commands, cmd));
     let of_info = info.map_or(&[][..], |command| {
