@@ -58,7 +58,7 @@ def read_sections(objdump: str, path: Path) -> Iterator[Section]:
                 yield Section(segname, name, int(addr, 16), int(size, 16))
 
 
-# Of a symbol of a section: the value, the section, and the name. Names may have blanks.
+# The value, the section and the name of a symbol of a section. Names may have blanks.
 SYMBOL = re.compile(r"([0-9a-f]{16}) \(([^(),]+),([^(),]+)\) (?:\[[^]]+\] )*(?:weak |private )?(?:non-)?external "
                     r"(?:automatically hidden )?(?:\(was a private external\) )?(.+)")
 

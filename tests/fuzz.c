@@ -559,7 +559,7 @@ static bool begins(struct part name, struct part label) {
     return label.size <= name.size && memcmp(name.at, label.at, label.size) == 0;
 }
 
-// What the trie says of a name. The nodes that are passed have no more bytes in all than the trie.
+// What the trie says of a name. The visited nodes have no more bytes together than the trie.
 static bool find_said(struct part trie, struct part name, struct part *said) {
     struct node node;
     uint64_t place = 0;
@@ -1201,7 +1201,7 @@ static void check_any(const struct held *held, struct kesvuot_cursor cursor, siz
             break;
         }
         free(some.rows);
-        // The cursor that the call left is one that a caller may pass again.
+        // A caller may pass the cursor again as the call left it.
         free(read_rows(&tables[k], held, &next, max).rows);
     }
     check_name(held, (uint32_t)cursor.items);

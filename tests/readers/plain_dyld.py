@@ -141,7 +141,7 @@ class Dyld:
         self.memory = Memory(image)
         self.writes = []
         self.steps = self.slide = 0
-        # What is promised: no more writes to a stream than this.
+        # The promise: no more writes by a stream than this.
         self.budget = sum(segment.filesize // POINTER for segment in image.segments
                           if segment.vmsize > 0 and segment.initprot & VM_PROT_WRITE)
         self.segments = [segment.place for segment in image.segments]

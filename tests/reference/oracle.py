@@ -1447,7 +1447,7 @@ def walk_once(image, table):
         if left < 0:
             return nodes, ("export_total", place)
         nodes.append(node)
-        # The first child is met next, and what is below it before the second.
+        # The first child is visited next, and all nodes below it before the second child.
         waiting += reversed(node.children)
     return nodes, None
 

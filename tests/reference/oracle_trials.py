@@ -32,8 +32,8 @@ from . import HIDDEN, ORACLE, load
 BATCH = 50
 SHOWN = 20
 
-# What is asked of a file: its name in the reports, its bytes, and the words before and after its path. The word before
-# is `check` or a profile, for a verdict, or `where`.
+# A question on a file: the name in the reports, the bytes, and the words before and after the path. The word before is
+# `check` or a profile, for a verdict, or `where`.
 Question = namedtuple("Question", "name data before after")
 Difference = namedtuple("Difference", "question oracle program")
 # The differences, how often the oracle gave each kind of answer, and the answers of both to the questions.
