@@ -1872,7 +1872,6 @@ static void check_image(const struct file *file, struct breaks *breaks, bool is_
     }
 }
 
-// Checks a universal file.
 static void check_universal(const struct file *file, struct breaks *breaks, bool is_strict) {
     struct universal universal;
     if (breaks_fat_truncated(file, &universal)) {

@@ -325,7 +325,6 @@ func readImports(image *Image) (all []importRow) {
 	}
 }
 
-// symbolCursor returns the cursor of the symbol with this index.
 func symbolCursor(index uint64) cursor { return cursor{items: C.uint64_t(index)} }
 
 func readName(image *Image, strx uint32) []byte {

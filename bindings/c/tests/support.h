@@ -27,7 +27,6 @@ enum { UNWRITTEN = 0xa5 };
 // Room for a call to write to, between guard pages. All its bytes are UNWRITTEN.
 struct file room_of(size_t size, enum side side);
 
-// Whether all bytes have a value.
 bool is_filled(const void *bytes, size_t size, int value);
 
 // The side that the environment asks for: IN_BLOCK if IN_BLOCK is set, otherwise the given one.

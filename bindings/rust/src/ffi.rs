@@ -730,7 +730,6 @@ pub fn find_thread_entry(file: &[u8], image: &Image) -> (u32, u64) {
     (status, entry)
 }
 
-/// A blob with all the bytes.
 fn blob_of(bytes: &[u8]) -> Blob {
     let all = Span {
         offset: 0,
