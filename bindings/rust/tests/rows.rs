@@ -11,8 +11,8 @@ fn with_symbols(count: u32) -> Vec<u8> {
     with_strings(count, 0)
 }
 
-/// An executable as above, with `strsize` zero bytes as strings after the symbols. Every third symbol has no name, and the
-/// others have an empty one.
+/// An executable as above, with `strsize` zero bytes as strings after the symbols. Every third symbol has no name, and
+/// the others have an empty one.
 fn with_strings(count: u32, strsize: u32) -> Vec<u8> {
     let header = [0xfeed_facf, 0x0100_0007, 3, 2, 1, 24, 0, 0];
     let symtab = [2, 24, 56, count, 56 + 16 * count, strsize];
