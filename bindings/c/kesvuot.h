@@ -314,7 +314,7 @@ static inline const char *kesvuot_platform_name(uint32_t platform) {
  * KESVUOT_NO_INDEX. */
 enum {
     /* registry: parts */
-    KESVUOT_PART_NONE = 0,            /* no part: all numbers are 0 */
+    KESVUOT_PART_NONE = 0,            /* no part: its index is KESVUOT_NO_INDEX, and its other numbers are 0 */
     KESVUOT_PART_FILE = 1,            /* all bytes of the file */
     KESVUOT_PART_MAGIC = 2,           /* the first 4 bytes of the file or, with its index, of a slice */
     KESVUOT_PART_FAT_HEADER = 3,      /* fat_header */
@@ -323,7 +323,7 @@ enum {
     KESVUOT_PART_SLICE = 6,           /* the bytes of the slice with this index */
     KESVUOT_PART_HEADER = 7,          /* mach_header_64 */
     KESVUOT_PART_HEADERS = 8,         /* mach_header_64, and the sizeofcmds bytes after it */
-    KESVUOT_PART_COMMAND = 9,         /* load_command: all cmdsize bytes. The index is that of kesvuot_read_commands */
+    KESVUOT_PART_COMMAND = 9,         /* load_command: all cmdsize bytes, with the index of kesvuot_read_commands */
     KESVUOT_PART_SEGMENT = 10,        /* the file bytes of a segment, with the index of kesvuot_read_segments */
     KESVUOT_PART_SEGMENT_MEMORY = 11, /* its addresses: vmsize from vmaddr on */
     KESVUOT_PART_SECTION = 12,        /* section_64, with the index of kesvuot_read_sections */

@@ -48,7 +48,7 @@ kinds! {
     Header = 7,
     /// `mach_header_64`, and the `sizeofcmds` bytes after it.
     Headers = 8,
-    /// `load_command`: all `cmdsize` bytes. The index is that of [`commands`](crate::Image::commands).
+    /// `load_command`: all `cmdsize` bytes, with the index of [`commands`](crate::Image::commands).
     Command = 9,
     /// The file bytes of a segment, with the index of [`segments`](crate::Image::segments).
     Segment = 10,
