@@ -46,7 +46,8 @@ FILL_TOOL = sed -e "1s|@PYTHON@|$(PYTHON)|; s|@LIB_FROM_HERE@|$$(realpath -ms --
     -e "s|@PACKAGE_FROM_HERE@|$$(realpath -ms --relative-to='$(BINDIR)' "$(PYTHONDIR)")|"
 
 # On an empty input, each command builds its program, if it is not current, and the program refuses the input.
-all: lib
+all:
+	@packaging/library $$(echo $(PROGRAMS) | tr - _)
 	@top=. && . packaging/record.sh && for command in $(PROGRAMS); do \
 	    take_program $$command && test "$$(./$$command $$judging </dev/null)" = "refused: magic at 0x0" || exit; \
 	done
