@@ -110,7 +110,7 @@ module _ (trie : List ℕ) where
           (ltb-true 0 terminal.len some, (e, there, is_at, flags))
       by_size false none at = absurd (none-some found at)
 
--- What is found is the rule
+-- The search finds the rule
 
 module _ (image : List ℕ) (names : List Named) (named : (one : Named) → Contains names one ↔ IsNamed image one)
     (nodes : (place : ℕ) → ¬ BreaksExportNode image place) (totals : (place : ℕ) → ¬ BreaksExportTotal image place) (edges : (place : ℕ) → ¬ BreaksExportEdge image place)

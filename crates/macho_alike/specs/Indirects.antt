@@ -109,7 +109,7 @@ IsNameStart image index start =
 abbrev pub IsNameOf : List ℕ → ℕ → List ℕ → Type 0
 IsNameOf image index name = (start : ℕ) × IsNameStart image index start × (string_from start image ≡ name)
 
--- the entry is the index of a symbol, and this has not the name that begins at a place
+-- the entry is the index of a symbol, whose name is not the one that begins at a place
 abbrev pub IsOfAnotherName : List ℕ → Indirect → ℕ → Type 0
 IsOfAnotherName image entry name = IsSymbolIndex entry.value × ¬ IsNameOf image entry.value (string_from name image)
 

@@ -111,8 +111,8 @@ pub enum Compared {
 /// bytes, or they are of one slot, and their names, addends or libraries differ. The image breaks no rule of the layout.
 ///
 /// The names of one slot are compared by their bytes, up to as many bytes as the image has. Past that, names with the
-/// same bytes are looked for once, and then compared by their places. For n binds it takes time in the order of n log n,
-/// and past that of the bytes of their names, times log n. It takes memory for each bind.
+/// same bytes are looked for once, and then compared by their places. For n binds whose names have b bytes it takes time in
+/// the order of n log n, and past that limit in the order of b log n. It takes memory for each bind.
 ///
 /// Pointers of chains share no byte, and each says one bind, so they are not looked at.
 pub fn bind_once(alloc: Global, image: &Image) -> Result<Option<u64>, AllocError>

@@ -263,8 +263,8 @@ fn has_own_name(symbol: Symbol) -> bool
     is_external(symbol.kind) && symbol.kind & N_TYPE != N_INDR && symbol.strx != 0
 }
 
-// The least place of an entry that has two names. Mostly few bytes of names show that there is none. Otherwise names are
-// taken for binds of the slot with the index of the entry.
+// The least place of an entry that has two names. Mostly a few bytes of the names show that each entry has one name.
+// Otherwise each name is taken for a bind of the slot with the index of the entry.
 fn least_otherwise(
     alloc: Global,
     image: &Image,
