@@ -17,14 +17,9 @@ use Rattle.macho_chains.specs.declared.chain_header.ChainHeader.{ChainHeader}
 use Rattle.macho_chains.specs.declared.chain_imports.Ordinal.TheVariants as special
 use Rattle.macho_chains.specs.declared.chains.ChainTable.{ChainTable}
 use Rattle.macho_chains.proofs.ChainTables.{chain_table_of}
-use Rattle.macho_alike.specs.Imports.{IsFrom, IsOpcodeLookUp, ImportLooksUp, TableLooksUp, IsChainLookUp, IsLookUp}
-use Rattle.macho_alike.specs.NotedLibraries.{IsLookUpNoted, AreNoted, IsOpcodeOrImport, IsNear}
+use Rattle.macho_alike.specs.Imports.{ImportLooksUp, TableLooksUp, IsChainLookUp}
+use Rattle.macho_alike.specs.LookUps.{IsLookedUpIn, IsNear}
 use Rattle.macho_alike.specs.declared.binds.Library.{Library}
-use Rattle.macho_alike.specs.declared.imports.Libraries.{Libraries}
-use Rattle.macho_alike.proofs.NotedLibraries.{noted_same, look_up_more}
-
-abbrev Known : Type 0
-Known = List ℕ → Option Libraries
 
 -- The table of an image
 
@@ -36,7 +31,7 @@ module _ (image : List ℕ) (name : List ℕ) (from : Library) where
   InHeader chains = IsSomeAnd (chain_header chains) (λ header. TableLooksUp chains header name from)
 
   -- without a table no import looks a name up
-  untabled : ((table : Span) → ¬ IsChainTable image table) → ¬ IsChainLookUp image name from
+  pub untabled : ((table : Span) → ¬ IsChainTable image table) → ¬ IsChainLookUp image name from
   untabled none looks =
       let (command, is, (some, here)) = some_of (λ c. OfTable image (table_at image c linkedit_data_table) Looks 0) (chained_fixups image) looks in
       none (bytes_of_table (table_at image command linkedit_data_table)) (chain_table_of image command is some)
@@ -65,84 +60,47 @@ module _ (image : List ℕ) (name : List ℕ) (from : Library) where
             let some : 0 < (table_at image named.0 linkedit_data_table).1 = subst (λ (n : ℕ). 0 < n) (ap (λ (s : Span). s.len) named.2.0) named.2.1 in
             of_some (λ c. OfTable image (table_at image c linkedit_data_table) Looks 0) (chained_fixups image) named.0 named.1 (some, subst InHeader same_bytes here)
 
-    headless : table.header ≡ None → ¬ IsChainLookUp image name from
+    pub headless : table.header ≡ None → ¬ IsChainLookUp image name from
     headless none looks =
         let (header, some, here) = some_of (λ header. TableLooksUp (bytes_of table.bytes) header name from) (chain_header (bytes_of table.bytes)) (in_header.0 looks) in
         none-some header (sym none ∙ (is.header ∙ some))
 
-    headed : (header : ChainHeader) → table.header ≡ Some header → TableLooksUp (bytes_of table.bytes) header name from ↔ IsChainLookUp image name from
+    pub headed : (header : ChainHeader) → table.header ≡ Some header → TableLooksUp (bytes_of table.bytes) header name from ↔ IsChainLookUp image name from
     headed header at =
         let known : chain_header (bytes_of table.bytes) ≡ Some header = sym is.header ∙ at in (
           λ looks. in_header.1 (of_some (λ h. TableLooksUp (bytes_of table.bytes) h name from) (chain_header (bytes_of table.bytes)) header known looks),
           λ looks. some_has (λ h. TableLooksUp (bytes_of table.bytes) h name from) (chain_header (bytes_of table.bytes)) header known (in_header.0 looks),
         )
 
-module _ (image : List ℕ) (known : Known) where
-  -- the opcodes are all
-  alone : ((name : List ℕ) (from : Library) → ¬ IsChainLookUp image name from) → AreNoted (IsOpcodeLookUp image) known → AreNoted (IsLookUp image) known
-  alone none = noted_same (IsOpcodeLookUp image) (IsLookUp image) known (λ name from. (
-    λ opcode. inl opcode,
-    λ either. elim either [ inl opcode ↦ opcode | inr chain ↦ absurd (none name from chain) ],
-  ))
-
-  pub noted_untabled : ((table : Span) → ¬ IsChainTable image table) → AreNoted (IsOpcodeLookUp image) known → AreNoted (IsLookUp image) known
-  noted_untabled none = alone (λ name from. untabled image name from none)
-
-  module _ (table : ChainTable) (is : IsTableOf image table) where
-    pub noted_headless : table.header ≡ None → AreNoted (IsOpcodeLookUp image) known → AreNoted (IsLookUp image) known
-    noted_headless none = alone (λ name from. headless image name from table is none)
-
-    module _ (header : ChainHeader) (at : table.header ≡ Some header) where
-      pub noted_past : ImportsEndPast (bytes_of table.bytes) header → AreNoted (IsOpcodeLookUp image) known → AreNoted (IsLookUp image) known
-      noted_past past = alone (λ name from looks. ((headed image name from table is header at).1 looks).0 past)
-
-      pub noted_table : AreNoted (IsOpcodeOrImport image (bytes_of table.bytes) header) known → AreNoted (IsLookUp image) known
-      noted_table = noted_same (IsOpcodeOrImport image (bytes_of table.bytes) header) (IsLookUp image) known (λ name from. (
-        λ either. elim either [ inl opcode ↦ inl opcode | inr table_says ↦ inr ((headed image name from table is header at).0 table_says) ],
-        λ either. elim either [ inl opcode ↦ inl opcode | inr chain ↦ inr ((headed image name from table is header at).1 chain) ],
-      ))
-
-      -- an import of the table that looks a name up
-      pub import_has : (name : List ℕ) (from : Library) → TableLooksUp (bytes_of table.bytes) header name from → (n : List ℕ) × (f : Library) × IsLookUp image n f
-      import_has name from looks = (name, from, inr ((headed image name from table is header at).0 looks))
-
 -- The first imports, so many
 
-module _ (image chains : List ℕ) (header : ChainHeader) where
+module _ (chains : List ℕ) (header : ChainHeader) where
   abbrev pub ImportsBelow : ℕ → List ℕ → Library → Type 0
-  ImportsBelow count name from = IsOpcodeLookUp image name from ⊎ ((k : ℕ) × (k < count) × ImportLooksUp chains header k name from)
+  ImportsBelow count name from = (k : ℕ) × (k < count) × ImportLooksUp chains header k name from
 
-  pub imports_first : (known : Known) → AreNoted (IsOpcodeLookUp image) known → AreNoted (ImportsBelow 0) known
-  imports_first known = noted_same (IsOpcodeLookUp image) (ImportsBelow 0) known (λ name from. (
-    λ opcode. inl opcode,
-    λ either. elim either [ inl opcode ↦ opcode | inr (k, less, looks) ↦ absurd (omega (arith, less)) ],
-  ))
+  pub imports_none : (name : List ℕ) (from : Library) → ¬ ImportsBelow 0 name from
+  imports_none name from (k, less, looks) = omega (arith, less)
 
-  pub imports_next : (count : ℕ) (old new : Known) (name : List ℕ) (looked_in : Option Library)
-      → ((other : List ℕ) (from : Library) → ImportLooksUp chains header count other from ↔ ((other ≡ name) × IsFrom looked_in from))
-      → IsLookUpNoted old new name looked_in → AreNoted (ImportsBelow count) old → AreNoted (ImportsBelow (count + 1)) new
-  imports_next count old new name looked_in says noted are =
-      noted_same (λ other from. ImportsBelow count other from ⊎ ((other ≡ name) × IsFrom looked_in from)) (ImportsBelow (count + 1)) new (λ other from. (to other from, back other from))
-      (look_up_more (ImportsBelow count) old new are name looked_in noted)
+  pub imports_more : (count : ℕ) (name : List ℕ) (looked_in : Option Library)
+      → ((other : List ℕ) (from : Library) → ImportLooksUp chains header count other from ↔ IsLookedUpIn name looked_in other from)
+      → (other : List ℕ) (from : Library) → ImportsBelow (count + 1) other from ↔ (ImportsBelow count other from ⊎ IsLookedUpIn name looked_in other from)
+  imports_more count name looked_in says other from = (to, back)
     where
-      to : (other : List ℕ) (from : Library) → ImportsBelow count other from ⊎ ((other ≡ name) × IsFrom looked_in from) → ImportsBelow (count + 1) other from
-      to other from (inl (inl opcode)) = inl opcode
-      to other from (inl (inr (k, less, looks))) = inr (k, omega (arith, less), looks)
-      to other from (inr here) = inr (count, omega arith, (says other from).1 here)
-
-      back : (other : List ℕ) (from : Library) → ImportsBelow (count + 1) other from → ImportsBelow count other from ⊎ ((other ≡ name) × IsFrom looked_in from)
-      back other from (inl opcode) = inl (inl opcode)
-      back other from (inr (k, less, looks)) = elim (cases_eq k count) [
+      to : ImportsBelow (count + 1) other from → ImportsBelow count other from ⊎ IsLookedUpIn name looked_in other from
+      to (k, less, looks) = elim (cases_eq k count) [
         | inl same ↦ inr ((says other from).0 (subst (λ (n : ℕ). ImportLooksUp chains header n other from) same looks))
-        | inr apart ↦ inl (inr (k, omega (arith, less, apart), looks))
+        | inr apart ↦ inl (k, omega (arith, less, apart), looks)
       ]
 
-  pub imports_all : (count : ℕ) (known : Known) → count ≡ header.imports_count → ¬ ImportsEndPast chains header → AreNoted (ImportsBelow count) known
-      → AreNoted (IsOpcodeOrImport image chains header) known
-  imports_all count known all lie = noted_same (ImportsBelow count) (IsOpcodeOrImport image chains header) known (λ name from. (
-    λ either. elim either [ inl opcode ↦ inl opcode | inr (k, less, looks) ↦ inr (lie, (k, omega (arith, less, all), looks)) ],
-    λ either. elim either [ inl opcode ↦ inl opcode | inr (lies, (k, less, looks)) ↦ inr (k, omega (arith, less, all), looks) ],
-  ))
+      back : ImportsBelow count other from ⊎ IsLookedUpIn name looked_in other from → ImportsBelow (count + 1) other from
+      back (inl (k, less, looks)) = (k, omega (arith, less), looks)
+      back (inr here) = (count, omega arith, (says other from).1 here)
+
+  pub imports_all : (count : ℕ) → count ≡ header.imports_count → ¬ ImportsEndPast chains header → (name : List ℕ) (from : Library) → ImportsBelow count name from ↔ TableLooksUp chains header name from
+  imports_all count all lie name from = (
+    λ (k, less, looks). (lie, (k, omega (arith, less, all), looks)),
+    λ (lies, (k, less, looks)). (k, omega (arith, less, all), looks),
+  )
 
 -- Special ordinals are at most 15 below 0.
 

@@ -39,15 +39,6 @@ breaks_where image P two (Some first) (here, least) = ((two, here), λ place bro
 pub breaks_nowhere : (image : List ℕ) → ¬ IsTwoLevel image → (place : ℕ) → ¬ BreaksImportLibrary image place
 breaks_nowhere image flat place broken = flat broken.0
 
-module _ (image : List ℕ) (all : List Symbol) (are : AreSymbols image all) (keeps : NothingBreaks (BreaksImage image None)) where
-  pub others_break : (symtab : ℕ) → first_with_cmd image loader.LC_SYMTAB (commands_of image) ≡ Some symtab → AreBreaks (AtOther image) (λ s. s.place) (IsFromOther image symtab) all
-  others_break symtab is =
-      items_break image loader.LC_SYMTAB 16 (symoff image) (nsyms image) (symbol_at image) (λ s. s.place) (λ p. refl) rule.SymbolName (lit< tt) (λ other place early. keeps other place) refl
-      (λ c has. table_inside image loader.LC_SYMTAB SymtabCommand c symbol_table rule.SymbolName (lit< tt) (λ other place early. keeps other place) refl has symbols_listed)
-      (λ c p. IsFromOther image c (symbol_at image p)) (IsFromOther image symtab)
-      (λ c p first. let same = same_Some symtab c (sym is ∙ first) in
-      (λ here. subst (λ t. IsFromOther image t (symbol_at image p)) same here, λ here. subst (λ t. IsFromOther image t (symbol_at image p)) (sym same) here)) all are
-
 -- These symbols are left, and the others are from no other library.
 pub record AreLeft (image : List ℕ) (all left : List Symbol) (symtab : ℕ) : Type 0 where
   pub first : first_with_cmd image loader.LC_SYMTAB (commands_of image) ≡ Some symtab

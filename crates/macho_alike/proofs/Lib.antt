@@ -1,3 +1,4 @@
+pub mod AgreedClaims
 pub mod Between
 pub mod BindAnswers
 pub mod BindLists
@@ -23,6 +24,7 @@ pub mod NameOrder
 pub mod NamedSymbols
 pub mod NearEntries
 pub mod NotedLibraries
+pub mod NotedLookUps
 pub mod SaidNames
 pub mod SaidOrders
 pub mod SegmentPlaces

@@ -1,5 +1,5 @@
 -- A walk over a stream notes what its opcodes look up.
-use Rattle.std.proofs.Common.{◌≡◌, ◌↔◌, ◌⊎◌, ◌∙◌, ℕ, zero, suc, ◌+◌, ◌-◌, ◌≤◌, List, [], ◌∷◌, ◌++◌, length, Option, None, Some, IfSome, refl, sym, ap, ap₂, subst, arith, inl, inr}
+use Rattle.std.proofs.Common.{◌≡◌, ◌↔◌, ◌⊎◌, ◌∙◌, ℕ, zero, suc, ◌+◌, ◌-◌, ◌≤◌, List, [], ◌∷◌, ◌++◌, length, Option, None, Some, IfSome, Contains, refl, sym, ap, ap₂, subst, arith, inl, inr}
 use Rattle.std.specs.Prelude.{MatchOption}
 use Rattle.std.proofs.lemmas.Option.{same_Some, none-some}
 use Rattle.macho_fields.specs.Field.{part}
@@ -20,20 +20,16 @@ use Rattle.macho_opcodes.specs.declared.streams.Stream.TheVariants as streams
 use Rattle.macho_alike.specs.Binds.{no_aim, aimed, looked_in, slot_offset, StepBinds, StreamBinds, BindsOf, IsBind}
 use Rattle.macho_alike.specs.BindLists.{WereAdded, AreSpread, first_of, spread}
 use Rattle.macho_alike.specs.Imports.{IsFrom, BindLooksUp, IsOpcodeLookUp}
-use Rattle.macho_alike.specs.NotedLibraries.{IsLookUpNoted, text_of, IsNextNoted, AreNoted, AnyLooksUp, AreNotedOf, WereNoted, SomeLooksUp, BindsNothing, IsLookUpOf}
+use Rattle.macho_alike.specs.LookUps.{LookUps, WereListed, WereNoted, HasAny, IsLookedUpIn, SomeLooksUp, text_of, IsNextNoted, BindsNothing, IsLookUpOf}
 use Rattle.macho_alike.specs.declared.binds.Aim.{Aim}
 use Rattle.macho_alike.specs.declared.binds.Bind.{Bind}
 use Rattle.macho_alike.specs.declared.binds.Library.{Library}
 use Rattle.macho_alike.specs.declared.binds.Source.{Source}
-use Rattle.macho_alike.specs.declared.imports.Libraries.{Libraries}
 use Rattle.macho_alike.specs.declared.imports.LookUp.{LookUp}
-use Rattle.macho_alike.proofs.BindLists.{added_none, added_same, spread_none, spread_more, step_added}
+use Rattle.macho_alike.proofs.BindLists.{added_none, spread_none, spread_more, step_added}
 use Rattle.macho_alike.proofs.BindStreams.{is_bind}
 use Rattle.macho_alike.proofs.BindWalks.{IsRead, read_start, read_stuck, read_all, read_named, read_more, binds_step}
-use Rattle.macho_alike.proofs.NotedLibraries.{noted_nothing, noted_same, noted_kept, look_up_more}
-
-abbrev Known : Type 0
-Known = List ℕ → Option Libraries
+use Rattle.macho_alike.proofs.NotedLookUps.{listed_none, listed_same, listed_then}
 
 -- The binds of a step can be added to a list
 
@@ -85,22 +81,26 @@ module _ (one : Stream) (from place : ℕ) (cursor : Cursor) (aim : Aim) where
 module _ (image : List ℕ) where
   -- The look-ups of a list
 
-  abbrev pub LastNoted : List Bind → Option LookUp → Type 0
-  LastNoted items last = (look_up : LookUp) → last ≡ Some look_up → (from : Library) → IsFrom look_up.library from → AnyLooksUp image items (text_of image look_up) from
+  abbrev pub AnyLooksUp : List Bind → List ℕ → Library → Type 0
+  AnyLooksUp binds = SomeLooksUp image (Contains binds)
+
+  -- what the last one says is listed
+  abbrev pub LastListed : LookUps → Option LookUp → Type 0
+  LastListed looks last = (look_up : LookUp) → last ≡ Some look_up → (from : Library) → IsFrom look_up.library from → Contains looks (text_of image look_up, from)
 
   module _ (P : Bind → Type 0) (items new : List Bind) (added : WereAdded P items new) (T : List ℕ → Library → Type 0)
       (only : (bind : Bind) → P bind → (name : List ℕ) (from : Library) → BindLooksUp image bind name from → T name from)
       (some : (name : List ℕ) (from : Library) → T name from → (bind : Bind) × P bind × BindLooksUp image bind name from) where
-    look_ups_added : (name : List ℕ) (from : Library) → AnyLooksUp image new name from ↔ (AnyLooksUp image items name from ⊎ T name from)
+    look_ups_added : (name : List ℕ) (from : Library) → AnyLooksUp new name from ↔ (AnyLooksUp items name from ⊎ T name from)
     look_ups_added name from = (to, back)
       where
-        to : AnyLooksUp image new name from → AnyLooksUp image items name from ⊎ T name from
+        to : AnyLooksUp new name from → AnyLooksUp items name from ⊎ T name from
         to (bind, has, looks) = elim ((added bind).0 has) [
           | inl was ↦ inl (bind, was, looks)
           | inr is ↦ inr (only bind is name from looks)
         ]
 
-        back : AnyLooksUp image items name from ⊎ T name from → AnyLooksUp image new name from
+        back : AnyLooksUp items name from ⊎ T name from → AnyLooksUp new name from
         back (inl (bind, was, looks)) = (bind, (added bind).1 (inl was), looks)
         back (inr here) = let (bind, is, looks) = some name from here in (bind, (added bind).1 (inr is), looks)
 
@@ -109,7 +109,7 @@ module _ (image : List ℕ) where
 
     module _ (look_up : LookUp) (is : IsLookUpOf one from cursor aim here look_up) where
       abbrev Says : List ℕ → Library → Type 0
-      Says n f = (n ≡ text_of image look_up) × IsFrom look_up.library f
+      Says = IsLookedUpIn (text_of image look_up) look_up.library
 
       abbrev own : Span
       own = is.1
@@ -165,152 +165,140 @@ module _ (image : List ℕ) where
     look_up_inside stream near inside None nothing = tt
     look_up_inside stream near inside (Some look_up) is = look_up_ends look_up is stream near inside
 
-    -- and what is known then
-    module _ (items new : List Bind) (added : WereAdded (StepBinds one from place cursor aim here) items new) (old known : Known) (last now : Option LookUp) (are : AreNotedOf image items old)
-        (last_noted : LastNoted items last) where
-      next_noted : (next : Option LookUp) → MatchOption next (BindsNothing cursor here) (IsLookUpOf one from cursor aim here) → IsNextNoted image old known last next now
-          → AreNotedOf image new known × LastNoted new now
+    -- and what is noted then
+    module _ {N : Type 0} (are : LookUps → N → Type 0) (items new : List Bind) (added : WereAdded (StepBinds one from place cursor aim here) items new) (old known : N) (last now : Option LookUp)
+        (before looks : LookUps) (listed : WereListed (AnyLooksUp items) before looks) (is : are looks old) (last_listed : LastListed looks last) where
+      abbrev Noted : Type 0
+      Noted = (after : LookUps) × WereListed (AnyLooksUp new) before after × are after known × LastListed after now
+
+      next_noted : (next : Option LookUp) → MatchOption next (BindsNothing cursor here) (IsLookUpOf one from cursor aim here) → IsNextNoted are image old known last next now → Noted
       next_noted None nothing (inr (look_up, wrong, now_is, noted)) = absurd (none-some look_up wrong)
       next_noted None nothing (inl (either, now_is, kept)) =
-          let same = look_ups_added (StepBinds one from place cursor aim here) items new added (λ n f. ⊥) (λ bind binds n f looks. nothing_bound one from place cursor aim here nothing bind binds) (λ n f wrong. absurd wrong) in (
-            noted_same (AnyLooksUp image items) (AnyLooksUp image new) known (λ n f. (
+          let same = look_ups_added (StepBinds one from place cursor aim here) items new added (λ n f. ⊥) (λ bind binds n f looks_up. nothing_bound one from place cursor aim here nothing bind binds) (λ n f wrong. absurd wrong) in (
+            looks,
+            listed_same (AnyLooksUp items) (AnyLooksUp new) before looks (λ n f. (
               λ was. (same n f).1 (inl was),
-              λ is. elim ((same n f).0 is) [ inl was ↦ was | inr wrong ↦ absurd wrong ],
-            )) (noted_kept (AnyLooksUp image items) old known are kept),
-            λ look_up is f is_from. (same (text_of image look_up) f).1 (inl (last_noted look_up (sym now_is ∙ is) f is_from)),
+              λ any. elim ((same n f).0 any) [ inl was ↦ was | inr wrong ↦ absurd wrong ],
+            )) listed,
+            subst (are looks) (sym kept) is,
+            λ look_up some. last_listed look_up (sym now_is ∙ some),
           )
       next_noted (Some look_up) says (inl (inl none, now_is, kept)) = absurd (none-some look_up (sym none))
       next_noted (Some look_up) says (inl (inr is_last, now_is, kept)) =
           let same = look_ups_added (StepBinds one from place cursor aim here) items new added (Says look_up says) (says_only look_up says) (says_some look_up says) in
-          let had = λ (n : List ℕ) (f : Library) (is : Says look_up says n f). subst (λ (m : List ℕ). AnyLooksUp image items m f) (sym is.0) (last_noted look_up (sym is_last) f is.1) in (
-            noted_same (AnyLooksUp image items) (AnyLooksUp image new) known (λ n f. (
-              λ was. (same n f).1 (inl was),
-              λ is. elim ((same n f).0 is) [ inl was ↦ was | inr says_it ↦ had n f says_it ],
-            )) (noted_kept (AnyLooksUp image items) old known are kept),
-            λ other is f is_from. (same (text_of image other) f).1 (inl (last_noted other (sym now_is ∙ is) f is_from)),
+          let had = λ (n : List ℕ) (f : Library) (said : Says look_up says n f). subst (λ (m : List ℕ). Contains looks (m, f)) (sym said.0) (last_listed look_up (sym is_last) f said.1) in (
+            looks,
+            λ n f. (
+              λ has. elim ((listed n f).0 has) [ inl was ↦ inl was | inr any ↦ inr ((same n f).1 (inl any)) ],
+              λ either. elim either [
+                | inl was ↦ (listed n f).1 (inl was)
+                | inr any ↦ elim ((same n f).0 any) [ inl early ↦ (listed n f).1 (inr early) | inr said ↦ had n f said ]
+              ],
+            ),
+            subst (are looks) (sym kept) is,
+            λ other some. last_listed other (sym now_is ∙ some),
           )
-      next_noted (Some look_up) says (inr (other, is, now_is, noted)) =
-          let equal : other ≡ look_up = same_Some other look_up (sym is) in
+      next_noted (Some look_up) says (inr (other, some, now_is, noted)) =
+          let equal : other ≡ look_up = same_Some other look_up (sym some) in
           let same = look_ups_added (StepBinds one from place cursor aim here) items new added (Says look_up says) (says_only look_up says) (says_some look_up says) in
-          let noted_here = subst (λ (l : LookUp). IsLookUpNoted old known (text_of image l) l.library) equal noted in (
-            noted_same (λ n f. AnyLooksUp image items n f ⊎ Says look_up says n f) (AnyLooksUp image new) known (λ n f. ((same n f).1, (same n f).0))
-                (look_up_more (AnyLooksUp image items) old known are (text_of image look_up) look_up.library noted_here),
+          let noted_here = subst (λ (l : LookUp). WereNoted are (IsLookedUpIn (text_of image l) l.library) old known) equal noted in
+          let (after, after_listed, then) = noted_here looks is in (
+            after,
+            listed_then (AnyLooksUp items) (Says look_up says) (AnyLooksUp new) before looks after same listed after_listed,
+            then,
             λ third is_third f is_from.
                 let is_same : third ≡ look_up = same_Some third look_up (sym is_third ∙ now_is) in
-                (same (text_of image third) f).1 (inr (ap (λ (l : LookUp). text_of image l) is_same, subst (λ (l : LookUp). IsFrom l.library f) is_same is_from)),
+                (after_listed (text_of image third) f).1 (inr (ap (λ (l : LookUp). text_of image l) is_same, subst (λ (l : LookUp). IsFrom l.library f) is_same is_from)),
           )
+
+  -- the look-ups of a list to which nothing but binds with P was added
+  all_added : (P : Bind → Type 0) (binds : List Bind) → WereAdded P [] binds → (name : List ℕ) (from : Library) → AnyLooksUp binds name from ↔ SomeLooksUp image P name from
+  all_added P binds added name from = (
+    λ (bind, has, looks). elim ((added bind).0 has) [ inl (k, less, at) ↦ absurd (omega (arith, less)) | inr is ↦ (bind, is, looks) ],
+    λ (bind, is, looks). (bind, (added bind).1 (inr is), looks),
+  )
 
   -- Where a walk has come
 
-  module _ (one : Stream) (from : ℕ) (stream : List ℕ) (old : Known) where
-    pub record IsWalked (place : ℕ) (cursor : Cursor) (aim : Aim) (known : Known) (last : Option LookUp) : Type 0 where
-      pub walked : (items : List Bind) × IsRead one from stream [] place cursor aim items
-      pub noted : (before : List Bind) → AreNotedOf image before old
-          → (items : List Bind) × IsRead one from stream before place cursor aim items × (AreNotedOf image items known × LastNoted items last)
+  module _ {N : Type 0} (are : LookUps → N → Type 0) (one : Stream) (from : ℕ) (stream : List ℕ) (old : N) where
+    pub record IsWalked (place : ℕ) (cursor : Cursor) (aim : Aim) (notes : N) (last : Option LookUp) : Type 0 where
+      pub binds : List Bind
+      pub read : IsRead one from stream [] place cursor aim binds
+      pub noted : (before : LookUps) → are before old → (after : LookUps) × WereListed (AnyLooksUp binds) before after × are after notes × LastListed after last
 
     pub walk_start : IsWalked 0 start no_aim old None
     walk_start = record {
-      walked = ([], read_start one from stream []);
-      noted = λ before are. (before, read_start one from stream before, (are, λ look_up wrong. absurd (none-some look_up wrong)));
+      binds = [];
+      read = read_start one from stream [];
+      noted = λ before is. (before, listed_none (AnyLooksUp []) before (λ n f (bind, (k, less, at), looks). omega (arith, less)), is, λ look_up wrong. absurd (none-some look_up wrong));
     }
 
-    module _ (place : ℕ) (cursor : Cursor) (aim : Aim) (known : Known) (last : Option LookUp) (is : IsWalked place cursor aim known last) where
-      pub walk_stuck : step_at (opcodes_of one) stream place ≡ None → WereNoted image (StreamBinds one from stream) old known
-      walk_stuck none before are =
-          let (items, read, (noted, last_noted)) = is.noted before are in (items, read_stuck one from stream before place cursor aim items read none, noted)
+    module _ (place : ℕ) (cursor : Cursor) (aim : Aim) (notes : N) (last : Option LookUp) (is : IsWalked place cursor aim notes last) where
+      ended : WereAdded (StreamBinds one from stream) [] is.binds → WereNoted are (SomeLooksUp image (StreamBinds one from stream)) old notes
+      ended added before was =
+          let (after, listed, now, last_listed) = is.noted before was in
+          (after, listed_same (AnyLooksUp is.binds) (SomeLooksUp image (StreamBinds one from stream)) before after (all_added (StreamBinds one from stream) is.binds added) listed, now)
 
-      pub walk_all : length stream ≤ place → WereNoted image (StreamBinds one from stream) old known
-      walk_all end before are =
-          let (items, read, (noted, last_noted)) = is.noted before are in (items, read_all one from stream before place cursor aim items read end, noted)
+      pub walk_stuck : step_at (opcodes_of one) stream place ≡ None → WereNoted are (SomeLooksUp image (StreamBinds one from stream)) old notes
+      walk_stuck none = ended (read_stuck one from stream [] place cursor aim is.binds is.read none)
+
+      pub walk_all : length stream ≤ place → WereNoted are (SomeLooksUp image (StreamBinds one from stream)) old notes
+      walk_all end = ended (read_all one from stream [] place cursor aim is.binds is.read end)
 
       pub walk_named : (n : Span) → cursor.name ≡ Some n → end_of n ≤ length stream
-      walk_named = let (items, read) = is.walked in read_named one from stream [] place cursor aim items read
+      walk_named = read_named one from stream [] place cursor aim is.binds is.read
 
       module _ (here : Step) (after : ℕ) (at : step_at (opcodes_of one) stream place ≡ Some (here, after)) where
-        pub walk_more : (now : Option LookUp) (new : Known) (next : Option LookUp) (next_cursor : Cursor) (next_aim : Aim)
-            → MatchOption next (BindsNothing cursor here) (IsLookUpOf one from cursor aim here) → IsNextNoted image known new last next now
+        pub walk_more : (now : Option LookUp) (new : N) (next : Option LookUp) (next_cursor : Cursor) (next_aim : Aim)
+            → MatchOption next (BindsNothing cursor here) (IsLookUpOf one from cursor aim here) → IsNextNoted are image notes new last next now
             → next_cursor ≡ moved cursor here → next_aim ≡ aimed aim here → IsWalked after next_cursor next_aim new now
-        walk_more now new next next_cursor next_aim says noted goes turns = record {
-          walked =
-              let (items, read) = is.walked in
-              let (more, added) = added_step one from place cursor aim items here in
-              (more, read_more one from stream [] place cursor aim items read here after at more next_cursor next_aim added goes turns);
-          noted = λ before are.
-              let (items, read, (are_noted, last_noted)) = is.noted before are in
-              let (more, added) = added_step one from place cursor aim items here in (
-                more,
-                read_more one from stream before place cursor aim items read here after at more next_cursor next_aim added goes turns,
-                next_noted one from place cursor aim here items more added known new last now are_noted last_noted next says noted,
-              );
-        }
+        walk_more now new next next_cursor next_aim says noted goes turns =
+            let (more, added) = added_step one from place cursor aim is.binds here in record {
+              binds = more;
+              read = read_more one from stream [] place cursor aim is.binds is.read here after at more next_cursor next_aim added goes turns;
+              noted = λ before was.
+                  let (looks, listed, then, last_listed) = is.noted before was in
+                  next_noted one from place cursor aim here are is.binds more added notes new last now before looks listed then last_listed next says noted;
+            }
 
         -- where the look-up needs memory, a bind looks a name up
         pub walk_has : (next : Option LookUp) → MatchOption next (BindsNothing cursor here) (IsLookUpOf one from cursor aim here) → (look_up : LookUp) → next ≡ Some look_up
-            → (library : Library) → IsFrom look_up.library library → SomeLooksUp image (StreamBinds one from stream)
+            → (library : Library) → IsFrom look_up.library library → HasAny (SomeLooksUp image (StreamBinds one from stream))
         walk_has None says look_up wrong library is_from = absurd (none-some look_up wrong)
         walk_has (Some found) says look_up same library is_from =
-            let (items, read) = is.walked in
             let equal : look_up ≡ found = same_Some look_up found (sym same) in
             let (bind, binds, looks) = says_some one from place cursor aim here found says (text_of image found) library (refl, subst (λ (l : LookUp). IsFrom l.library library) equal is_from) in
-            (bind, (place, binds_step one from stream [] place cursor aim items read here after at bind binds), (text_of image found, library, looks))
+            (text_of image found, library, (bind, (place, binds_step one from stream [] place cursor aim is.binds is.read here after at bind binds), looks))
 
 -- The streams of an image
-
-pub were_noted_same : (image : List ℕ) (P Q : Bind → Type 0) (old new : Known) → ((bind : Bind) → P bind ↔ Q bind) → WereNoted image P old new → WereNoted image Q old new
-were_noted_same image P Q old new same noted before are = let (after, added, is) = noted before are in (after, added_same P Q before after same added, is)
-
-pub were_noted_none : (image : List ℕ) (P : Bind → Type 0) (known : Known) → ((bind : Bind) → ¬ P bind) → WereNoted image P known known
-were_noted_none image P known none before are = (before, added_none P before none, are)
 
 -- binds of the weak stream name no library
 weak_alone : (image : List ℕ) (command : ℕ) (bind : Bind) → BindsOf streams.WeakBind image command bind → bind.library ≡ None
 unfolding BindsOf
 weak_alone image command bind (offset, (before, next, after, are, at, (segment, name, k, set, named, less, is))) = ap (λ (b : Bind). b.library) is
 
-nothing_listed : (image : List ℕ) (name : List ℕ) (from : Library) → ¬ AnyLooksUp image [] name from
-nothing_listed image name from (bind, (k, less, at), looks) = omega (arith, less)
-
-module _ (image : List ℕ) (keeps : NothingBreaks (BreaksImage image None)) (old : Known) (empty : (name : List ℕ) → old name ≡ None) where
-  pub no_opcodes : dyld_info image ≡ None → AreNoted (IsOpcodeLookUp image) old
-  no_opcodes none = noted_nothing (IsOpcodeLookUp image) old (λ name from (bind, is, looks). absurd (unlisted bind is)) empty
-    where
-      unlisted : (bind : Bind) → ¬ IsBind image bind
-      unlisted bind is =
-          let (command, some, here) = some_of (λ c. (BindsOf streams.Bind image c bind ⊎ BindsOf streams.WeakBind image c bind) ⊎ BindsOf streams.LazyBind image c bind) (dyld_info image) is in
-          none-some command (sym none ∙ some)
+module _ (image : List ℕ) (keeps : NothingBreaks (BreaksImage image None)) where
+  pub no_opcodes : dyld_info image ≡ None → (name : List ℕ) (from : Library) → ¬ IsOpcodeLookUp image name from
+  no_opcodes none name from (bind, is, looks) =
+      let (command, some, here) = some_of (λ c. (BindsOf streams.Bind image c bind ⊎ BindsOf streams.WeakBind image c bind) ⊎ BindsOf streams.LazyBind image c bind) (dyld_info image) is in
+      none-some command (sym none ∙ some)
 
   module _ (command : ℕ) (info : dyld_info image ≡ Some command) where
-    module _ (first second : List Bind) (first_added : WereAdded (BindsOf streams.Bind image command) [] first) (second_added : WereAdded (BindsOf streams.LazyBind image command) first second)
-        (name : List ℕ) (from : Library) where
-      listed_to : AnyLooksUp image second name from → IsOpcodeLookUp image name from
-      listed_to (bind, has, looks) = (
-        bind,
-        (is_bind image keeps command info bind).0 (elim ((second_added bind).0 has) [
-          | inr lazy ↦ inr lazy
-          | inl early ↦ elim ((first_added bind).0 early) [
-            | inl (k, less, at) ↦ absurd (omega (arith, less))
-            | inr is ↦ inl (inl is)
-          ]
-        ]),
-        looks,
-      )
+    abbrev pub LooksUpIn : Stream → List ℕ → Library → Type 0
+    LooksUpIn one = SomeLooksUp image (BindsOf one image command)
 
-      listed_back : IsOpcodeLookUp image name from → AnyLooksUp image second name from
-      listed_back (bind, is, looks) = elim ((is_bind image keeps command info bind).1 is) [
-        | inr lazy ↦ (bind, (second_added bind).1 (inr lazy), looks)
+    -- only two streams name libraries
+    pub opcodes_whole : (name : List ℕ) (from : Library) → IsOpcodeLookUp image name from ↔ (LooksUpIn streams.Bind name from ⊎ LooksUpIn streams.LazyBind name from)
+    opcodes_whole name from = (
+      λ (bind, is, looks). elim ((is_bind image keeps command info bind).1 is) [
+        | inr lazy ↦ inr (bind, lazy, looks)
         | inl early ↦ elim early [
-          | inl plain ↦ (bind, (second_added bind).1 (inl ((first_added bind).1 (inr plain))), looks)
+          | inl plain ↦ inl (bind, plain, looks)
           | inr weak ↦ absurd (none-some from (sym (weak_alone image command bind weak) ∙ looks.1.0))
         ]
-      ]
-
-    pub opcodes_noted : (middle new : Known) → WereNoted image (BindsOf streams.Bind image command) old middle → WereNoted image (BindsOf streams.LazyBind image command) middle new
-        → AreNoted (IsOpcodeLookUp image) new
-    opcodes_noted middle new one two =
-        let (first, first_added, first_noted) = one [] (noted_nothing (AnyLooksUp image []) old (nothing_listed image) empty) in
-        let (second, second_added, second_noted) = two first first_noted in
-        noted_same (AnyLooksUp image second) (IsOpcodeLookUp image) new (λ name from. (listed_to first second first_added second_added name from, listed_back first second first_added second_added name from)) second_noted
-
-    -- a bind of a stream that names a library
-    pub opcodes_have : (one : Stream) → ((bind : Bind) → BindsOf one image command bind → IsBind image bind) → SomeLooksUp image (BindsOf one image command) → (name : List ℕ) × (from : Library) × IsOpcodeLookUp image name from
-    opcodes_have one are (bind, binds, (name, from, looks)) = (name, from, (bind, are bind binds, looks))
+      ],
+      λ either. elim either [
+        | inl (bind, plain, looks) ↦ (bind, (is_bind image keeps command info bind).0 (inl (inl plain)), looks)
+        | inr (bind, lazy, looks) ↦ (bind, (is_bind image keeps command info bind).0 (inr lazy), looks)
+      ],
+    )

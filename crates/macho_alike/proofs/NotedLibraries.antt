@@ -1,5 +1,5 @@
 -- What is noted of the libraries in which names are looked up is what the look-ups say.
-use Rattle.std.proofs.Common.{◌≡◌, ◌≢◌, ◌↔◌, ◌⊎◌, ◌∙◌, ℕ, List, Bool, true, false, cond, Option, None, Some, refl, sym, ap, subst, inl, inr}
+use Rattle.std.proofs.Common.{◌≡◌, ◌≢◌, ◌↔◌, ◌⊎◌, ◌∙◌, ℕ, List, [], ◌∷◌, ◌++◌, Contains, Bool, true, false, cond, Option, None, Some, refl, sym, ap, subst, arith, inl, inr}
 use Rattle.std.specs.Prelude.{IsSomeAnd, bytes_eq}
 use Rattle.std.specs.Borrow.{Bor}
 use Rattle.std.specs.BTreeMap.{BTreeMap, UpdatesBy}
@@ -10,12 +10,13 @@ use Rattle.std.proofs.lemmas.Map.Text.{btree_map_updates_str}
 use Rattle.std.proofs.lemmas.Option.{same_Some, none-some}
 use Rattle.std.proofs.lemmas.Slice.Eq.{bytes_eq-Decides}
 use Rattle.macho_fields.proofs.Options.{some_of, of_some, some_has, of_none}
-use Rattle.macho_alike.specs.Imports.{IsFrom}
-use Rattle.macho_alike.specs.NotedLibraries.{by_name, IsWith, IsNoted, IsLookUpNoted, AreNoted, HasOther}
+use Rattle.macho_alike.specs.LookUps.{LookUps, WereListed}
+use Rattle.macho_alike.specs.NotedLibraries.{by_name, IsWith, IsNoted, AreNoted, AreKnown, HasOther}
 use Rattle.macho_alike.specs.declared.binds.Library.{Library}
 use Rattle.macho_alike.specs.declared.binds.Library.TheVariants as library
 use Rattle.macho_alike.specs.declared.imports.Libraries.{Libraries}
 use Rattle.macho_alike.proofs.DefinitionMeanings.{equal_or_not}
+use Rattle.macho_alike.proofs.NotedLookUps.{listed_one}
 
 -- What is known, by the names
 abbrev Known : Type 0
@@ -67,13 +68,6 @@ module _ (P : List ℕ → Library → Type 0) where
   }
 
   module _ (old new : Known) (are : AreNoted P old) where
-    pub noted_kept : ((name : List ℕ) → new name ≡ old name) → AreNoted P new
-    noted_kept kept = record {
-      each = λ name from is. subst (λ (o : Option Libraries). IsSomeAnd o (λ libraries. (from ≡ libraries.first) ⊎ (libraries.has_other ≡ true))) (sym (kept name)) (are.each name from is);
-      first = λ name libraries is. are.first name libraries (sym (kept name) ∙ is);
-      other = λ name libraries is. are.other name libraries (sym (kept name) ∙ is);
-    }
-
     module _ (name : List ℕ) (from : Library) (noted : IsNoted old new name from) where
       abbrev More : List ℕ → Library → Type 0
       More other also = P other also ⊎ ((other ≡ name) × (also ≡ from))
@@ -153,27 +147,26 @@ module _ (P : List ℕ → Library → Type 0) where
       pub noted_more : AreNoted More new
       noted_more = record { each = each_more; first = first_more; other = other_more }
 
-    -- one look-up more
-    pub look_up_more : (name : List ℕ) (looked_in : Option Library) → IsLookUpNoted old new name looked_in → AreNoted (λ other from. P other from ⊎ ((other ≡ name) × IsFrom looked_in from)) new
-    look_up_more name looked_in (inl (none, kept)) =
-        let are_new = noted_kept kept in record {
-          each = λ other from either. elim either [ inl here ↦ are_new.each other from here | inr (same, is) ↦ absurd (none from is) ];
-          first = λ other libraries is. inl (are_new.first other libraries is);
-          other = λ other libraries is more. let (from, here, apart) = are_new.other other libraries is more in (from, inl here, apart);
-        }
-    look_up_more name looked_in (inr (from, is_from, noted)) =
-        let are_new = noted_more name from noted in record {
-          each = λ other also either. are_new.each other also (elim either [
-            | inl here ↦ inl here
-            | inr (same, is) ↦ inr (same, same_Some also from (sym is.0 ∙ is_from.0))
-          ]);
-          first = λ other libraries is. of_more other libraries.first (are_new.first other libraries is);
-          other = λ other libraries is more. let (also, here, apart) = are_new.other other libraries is more in (also, of_more other also here, apart);
-        }
-      where
-        of_more : (other : List ℕ) (also : Library) → P other also ⊎ ((other ≡ name) × (also ≡ from)) → P other also ⊎ ((other ≡ name) × IsFrom looked_in also)
-        of_more other also (inl here) = inl here
-        of_more other also (inr (same, is)) = inr (same, subst (IsFrom looked_in) (sym is) is_from)
+-- one look-up more of a list
+pub known_more : (before : LookUps) (old new : BTreeMap (Bor (List ℕ)) Libraries) (name : List ℕ) (from : Library) → IsNoted (by_name old) (by_name new) name from → AreKnown before old
+    → AreKnown (before ++ (name, from) ∷ []) new
+known_more before old new name from noted are =
+    noted_same (More P (by_name old) (by_name new) are name from noted) (λ other also. Contains (before ++ (name, from) ∷ []) (other, also)) (by_name new)
+    (λ other also. ((listed_one name from before other also).1, (listed_one name from before other also).0)) (noted_more P (by_name old) (by_name new) are name from noted)
+  where
+    P : List ℕ → Library → Type 0
+    P other also = Contains before (other, also)
+
+-- no look-up leaves nothing known
+pub known_none : (known : BTreeMap (Bor (List ℕ)) Libraries) → ((name : List ℕ) → by_name known name ≡ None) → AreKnown [] known
+known_none known empty = noted_nothing (λ name from. Contains [] (name, from)) (by_name known) (λ name from (k, less, at). omega (arith, less)) empty
+
+-- what is known of a list of all look-ups with P
+pub known_all : (P : List ℕ → Library → Type 0) (looks : LookUps) (known : BTreeMap (Bor (List ℕ)) Libraries) → WereListed P [] looks → AreKnown looks known → AreNoted P (by_name known)
+known_all P looks known listed = noted_same (λ name from. Contains looks (name, from)) P (by_name known) (λ name from. (
+  λ has. elim ((listed name from).0 has) [ inl (k, less, at) ↦ absurd (omega (arith, less)) | inr is ↦ is ],
+  λ is. (listed name from).1 (inr is),
+))
 
 -- what is known of another library
 pub has_other : (P : List ℕ → Library → Type 0) (known : Known) → AreNoted P known → (name : List ℕ) (own : Library) → HasOther known name own ↔ ((from : Library) × P name from × (from ≢ own))

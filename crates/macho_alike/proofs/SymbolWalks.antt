@@ -24,15 +24,20 @@ use Rattle.macho_alike.specs.Readers.{AreReaders}
 use Rattle.macho_alike.specs.Symbols.{IsSeenTwice, BreaksSymbolKind}
 
 module _ (image : List ℕ) (all : List Symbol) (are : AreSymbols image all) (keeps : NothingBreaks (BreaksImage image None)) where
+  -- a rule of symbols is broken at those with P
+  pub symbols_break : (P : ℕ → Symbol → Type 0) (symtab : ℕ) → first_with_cmd image loader.LC_SYMTAB (commands_of image) ≡ Some symtab
+      → AreBreaks (AtSymbol image (commands_of image) (λ symtab symbol. P symtab (symbol_at image symbol))) (λ s. s.place) (P symtab) all
+  symbols_break P symtab is =
+      items_break image loader.LC_SYMTAB 16 (symoff image) (nsyms image) (symbol_at image) (λ s. s.place) (λ p. refl) rule.SymbolName (lit< tt) (λ other place early. keeps other place) refl
+      (λ c has. table_inside image loader.LC_SYMTAB SymtabCommand c symbol_table rule.SymbolName (lit< tt) (λ other place early. keeps other place) refl has symbols_listed)
+      (λ c p. P c (symbol_at image p)) (P symtab)
+      (λ c p first. let same = same_Some symtab c (sym is ∙ first) in
+      (λ here. subst (λ t. P t (symbol_at image p)) same here, λ here. subst (λ t. P t (symbol_at image p)) (sym same) here)) all are
+
   -- the rule is broken at the symbols that are seen in two ways
   pub kinds_break : (symtab : ℕ) → first_with_cmd image loader.LC_SYMTAB (commands_of image) ≡ Some symtab
       → AreBreaks (BreaksSymbolKind image) (λ s. s.place) (IsSeenTwice image symtab) all
-  kinds_break symtab is =
-      items_break image loader.LC_SYMTAB 16 (symoff image) (nsyms image) (symbol_at image) (λ s. s.place) (λ p. refl) rule.SymbolName (lit< tt) (λ other place early. keeps other place) refl
-      (λ c has. table_inside image loader.LC_SYMTAB SymtabCommand c symbol_table rule.SymbolName (lit< tt) (λ other place early. keeps other place) refl has symbols_listed)
-      (λ c p. IsSeenTwice image c (symbol_at image p)) (IsSeenTwice image symtab)
-      (λ c p first. let same = same_Some symtab c (sym is ∙ first) in
-      (λ here. subst (λ t. IsSeenTwice image t (symbol_at image p)) same here, λ here. subst (λ t. IsSeenTwice image t (symbol_at image p)) (sym same) here)) all are
+  kinds_break = symbols_break (IsSeenTwice image)
 
 -- These symbols are left, and the others are seen in one way.
 pub record AreLeft (image : List ℕ) (readers : Readers) (all left : List Symbol) : Type 0 where

@@ -83,6 +83,12 @@ IsFromOther image symtab symbol =
     ImportsName symbol
     × ((from : Library) × IsLookUp image (name_of image symtab symbol) from × (from ≢ library_of symbol))
 
+-- no symbol is from another library
+abbrev pub NoneIsFromOther : List ℕ → Type 0
+NoneIsFromOther image =
+    (place : ℕ)
+    → ¬ AtSymbol image (commands_of image) (λ symtab symbol. IsFromOther image symtab (symbol_at image symbol)) place
+
 -- the rule import-library, at the place of a symbol
 abbrev pub BreaksImportLibrary : List ℕ → ℕ → Type 0
 BreaksImportLibrary image place =

@@ -3,6 +3,7 @@ pub mod BindModels
 pub mod BindNames
 pub mod Binds
 pub mod Bounds
+pub mod Claims
 pub mod DefinitionModels
 pub mod Definitions
 pub mod ExportModels
@@ -13,6 +14,7 @@ pub mod Imports
 pub mod IndirectModels
 pub mod Indirects
 pub mod Labels
+pub mod LookUps
 pub mod Names
 pub mod NotedLibraries
 pub mod Readers

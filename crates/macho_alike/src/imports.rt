@@ -1,7 +1,7 @@
 //! The rule of the libraries that undefined symbols are from. (`mach-o/nlist.h`: `nlist_64`; `mach-o/loader.h`:
 //! `BIND_OPCODE_..`, `LC_DYLD_CHAINED_FIXUPS`)
 
-ghost use Rattle.std.specs.Prelude.{◌≡◌, ◌+◌, ◌≤◌, ◌<◌, ◌^◌, ◌↔◌, ℕ, List, length, IsTrue, None, Some, IfOk, OnErr, IfSome, IsSomeAnd, MatchOption};
+ghost use Rattle.std.specs.Prelude.{◌≡◌, ◌+◌, ◌≤◌, ◌<◌, ◌^◌, ◌↔◌, ℕ, List, length, IsTrue, IsSome, None, Some, IfOk, OnErr, IfSome, IsSomeAnd, MatchOption};
 ghost use Rattle.macho_fields.specs.Bytes.{bytes_of};
 ghost use Rattle.macho_fields.specs.Field.{string_from};
 ghost use Rattle.macho_fields.specs.FirstPlace.{IsLeastPlace};
@@ -12,12 +12,17 @@ ghost use Rattle.macho_spans.specs.Span.{end_of};
 ghost use Rattle.macho_tables.specs.Places.{dyld_info as dyld_info_of};
 ghost use Rattle.macho_chains.specs.ChainImports.{ImportsEndPast};
 ghost use Rattle.macho_alike.specs.Binds.{StreamBinds, BindsOf};
-ghost use Rattle.macho_alike.specs.Imports.{ImportsName, library_of as library_of_symbol, library_by as library_by_ordinal, IsFrom, IsOpcodeLookUp, IsLookUp, HasLookUp, IsFromOther, BreaksImportLibrary};
-ghost use Rattle.macho_alike.specs.NotedLibraries.{by_name, IsWith, IsNoted, IsLookUpNoted, IsNextNoted, AreNoted, WereNoted, SomeLooksUp, HasOther, BindsNothing, IsLookUpOf, IsOpcodeOrImport, HasImportLookUp, IsNear};
+ghost use Rattle.macho_alike.specs.Imports.{ImportsName, library_of as library_of_symbol, library_by as library_by_ordinal, IsFrom, IsOpcodeLookUp, TableLooksUp, IsChainLookUp, IsLookUp, HasLookUp, IsFromOther, NoneIsFromOther, BreaksImportLibrary};
+ghost use Rattle.macho_alike.specs.Claims.{ordinal_of as ordinal_of_library, AreAmong, NoneIsUnclaimed};
+ghost use Rattle.macho_alike.specs.Definitions.{name_of};
+ghost use Rattle.macho_alike.specs.LookUps.{WereNoted, HasAny, IsLookedUpIn, SomeLooksUp, IsNextNoted, BindsNothing, IsLookUpOf, IsNear};
+ghost use Rattle.macho_alike.specs.NotedLibraries.{by_name, IsWith, AreNoted, HasOther};
 ghost use Rattle.macho_alike.specs.declared.binds.Library.{Library};
 ghost use Rattle.macho_symbols.specs.Header.{IsTwoLevel};
 
 use crate::binds::{Aim, Library};
+use crate::claims::{Claim, agree};
+use crate::notes::Notes;
 use crate::symbols::is_undefined_kind;
 use macho_chains::chain_header::ChainHeader;
 use macho_chains::chain_imports::Ordinal;
@@ -68,10 +73,12 @@ struct LookUp {
 /// look this name up. An image without `MH_TWOLEVEL` has none, since its symbols say no library. The image breaks no
 /// rule of the layout.
 ///
-/// The look-ups are noted in an ordered map by their names. A look-up that is the same as the one before it is noted
-/// once. For n look-ups and symbols whose names have b bytes it takes time in the order of b log n, besides the streams
-/// and the symbols. The rules `bind-names` and `chain-total` keep the names of look-ups below the bytes of the linked
-/// data. It takes some 100 bytes of memory for each name that is looked up.
+/// The hashes of the names are compared first, of look-ups and of undefined symbols. A look-up that is the same as the one
+/// before it is noted once. For n look-ups and symbols it takes the time to read their names and to sort n hashes, besides
+/// the streams and the symbols, and 16 bytes of memory for each. Two libraries for one hash mostly break the rule. Then
+/// the look-ups are noted in an ordered map by their names. For names of b bytes this takes time in the order of b log n,
+/// and some 100 bytes of memory for each name that is looked up. The rules `bind-names` and `chain-total` keep the names
+/// of look-ups below the bytes of the linked data.
 pub fn import_library(alloc: Global, image: &Image) -> Result<Option<u64>, AllocError>
     requires { NothingBreaks (Breaks image.now None) }
     ensures least { IfOk result (IsLeastPlace (BreaksImportLibrary image.now)) }
@@ -80,10 +87,47 @@ pub fn import_library(alloc: Global, image: &Image) -> Result<Option<u64>, Alloc
     if !is_two_level(image) {
         return Ok(None);
     }
+    let agreed = libraries_agree(alloc, image)?;
+    if agreed {
+        return Ok(None);
+    }
     let mut known = Known::new(alloc);
-    note_opcodes(image, &mut known)?;
-    note_chains(image, &mut known)?;
+    note_look_ups(image, &mut known)?;
     Ok(first_from_other(image, &known))
+}
+
+// Whether hashes of names show that no symbol is from another library than fixups look its name up in. Names with the same
+// bytes have the same hash. It answers no too where two names with one hash are of two libraries.
+fn libraries_agree(alloc: Global, image: &Image) -> Result<bool, AllocError>
+    requires { NothingBreaks (Breaks image.now None) }
+    ensures agree { IfOk result (λ agree. IsTrue agree → NoneIsFromOther image.now) }
+    ensures memory { OnErr result (HasLookUp image.now) }
+{
+    let mut claims = Vec::new(alloc);
+    note_look_ups(image, &mut claims)?;
+    if claims.is_empty() {
+        return Ok(true);
+    }
+    claim_symbols(image, &mut claims)?;
+    claims.sort_unstable_by_key(|claim| claim.hash);
+    Ok(agree(&claims))
+}
+
+// Adds what the undefined symbols with names say.
+fn claim_symbols(image: &Image, claims: &mut Vec<Claim>) -> Result<(), AllocError>
+    requires { NothingBreaks (Breaks image.now None) }
+    ensures kept { IfOk result (λ _. AreAmong claims.old.items claims.new.items) }
+    ensures claimed { IfOk result (λ _. NoneIsUnclaimed image.now claims.new.items) }
+{
+    let Some(symtab) = image.symtab() else {
+        return Ok(());
+    };
+    for symbol in image.symbols() {
+        if let Some(name) = imported_name(image.bytes(), symtab.stroff, symbol) {
+            claims.push(Claim::new(name, Some(library_ordinal(symbol))))?;
+        }
+    }
+    Ok(())
 }
 
 // The place of the first symbol whose name is known to be looked up in another library than the symbol says.
@@ -109,11 +153,23 @@ fn is_from_other(image: Bytes, stroff: u64, known: &Known, symbol: Symbol) -> bo
         → AreNoted (IsLookUp (bytes_of image.entry)) (by_name known.now)
         → IsTrue result ↔ IsFromOther (bytes_of image.entry) symtab symbol }
 {
-    if !imports_name(symbol) {
-        return false;
+    match imported_name(image, stroff, symbol) {
+        Some(name) => has_other(known, name, library_of(symbol)),
+        None => false,
     }
-    let name = string_at(image, stroff.saturating_add(u64::from(symbol.strx)));
-    has_other(known, name, library_of(symbol))
+}
+
+// The name of the symbol, if it is external and undefined, and has one.
+fn imported_name<'a>(image: Bytes<'a>, stroff: u64, symbol: Symbol) -> Option<&'a [u8]>
+    requires { length (bytes_of image) < 2 ^ 64 }
+    ensures named { IsSome result ↔ ImportsName symbol }
+    ensures name { (symtab : ℕ) → stroff ≡ stroff_of (bytes_of image.entry) symtab
+        → IfSome result (λ name. name.now ≡ name_of (bytes_of image.entry) symtab symbol) }
+{
+    if !imports_name(symbol) {
+        return None;
+    }
+    Some(string_at(image, stroff.saturating_add(u64::from(symbol.strx))))
 }
 
 // Whether the symbol is external and undefined, and has a name.
@@ -131,6 +187,20 @@ fn library_of(symbol: Symbol) -> Library
         EXECUTABLE_ORDINAL => Library::Special(MAIN_EXECUTABLE),
         DYNAMIC_LOOKUP_ORDINAL => Library::Special(FLAT_LOOKUP),
         number => Library::Ordinal(u64::from(number)),
+    }
+}
+
+// What `n_desc` says of a symbol from the library, if it can say that.
+pub(crate) fn ordinal_of(library: Library) -> Option<u16>
+    ensures { result ≡ ordinal_of_library library }
+{
+    match library {
+        Library::Special(MAIN_EXECUTABLE) => Some(EXECUTABLE_ORDINAL),
+        Library::Special(FLAT_LOOKUP) => Some(DYNAMIC_LOOKUP_ORDINAL),
+        Library::Ordinal(number) if number < u64::from(DYNAMIC_LOOKUP_ORDINAL) => {
+            Some(number as u16)
+        }
+        _ => None,
     }
 }
 
@@ -159,54 +229,64 @@ fn string_at<'a>(bytes: Bytes<'a>, place: u64) -> &'a [u8]
     }
 }
 
+// Notes the look-ups of an image.
+fn note_look_ups<'a, N: Notes<'a>>(image: &Image<'a>, notes: &mut N) -> Result<(), AllocError>
+    requires { NothingBreaks (Breaks image.now None) }
+    ensures noted { IfOk result (λ _. WereNoted N.are_of (IsLookUp image.now) notes.old notes.new) }
+    ensures memory { OnErr result (HasLookUp image.now) }
+{
+    note_opcodes(image, notes)?;
+    note_chains(image, notes)
+}
+
 // Notes the look-ups by opcodes. Those of the weak stream name no library.
-fn note_opcodes<'a>(image: &Image<'a>, known: &mut Known<'a>) -> Result<(), AllocError>
-    requires unbroken { NothingBreaks (Breaks image.now None) }
-    requires none { (name : List ℕ) → by_name known.old name ≡ None }
-    ensures noted { IfOk result (λ _. AreNoted (IsOpcodeLookUp image.now) (by_name known.new)) }
+fn note_opcodes<'a, N: Notes<'a>>(image: &Image<'a>, notes: &mut N) -> Result<(), AllocError>
+    requires { NothingBreaks (Breaks image.now None) }
+    ensures noted { IfOk result (λ _. WereNoted N.are_of (IsOpcodeLookUp image.now) notes.old notes.new) }
     ensures memory { OnErr result (HasLookUp image.now) }
 {
     let Some(command) = dyld_info(image) else {
         return Ok(());
     };
-    note_stream(image, command, Stream::Bind, known)?;
-    note_stream(image, command, Stream::LazyBind, known)
+    note_stream(image, command, Stream::Bind, notes)?;
+    note_stream(image, command, Stream::LazyBind, notes)
 }
 
 // Notes the look-ups of one stream of the command at `command`.
-fn note_stream<'a>(
+fn note_stream<'a, N: Notes<'a>>(
     image: &Image<'a>,
     command: u64,
     stream: Stream,
-    known: &mut Known<'a>,
+    notes: &mut N,
 ) -> Result<(), AllocError>
     requires unbroken { NothingBreaks (Breaks image.now None) }
     requires info { dyld_info_of image.now ≡ Some command }
     ensures noted { IfOk result (λ _.
-        WereNoted image.now (BindsOf stream image.now command) (by_name known.old) (by_name known.new)) }
-    ensures memory { OnErr result (SomeLooksUp image.now (BindsOf stream image.now command)) }
+        WereNoted N.are_of (SomeLooksUp image.now (BindsOf stream image.now command)) notes.old notes.new) }
+    ensures memory { OnErr result (HasAny (SomeLooksUp image.now (BindsOf stream image.now command))) }
 {
     let table = span_of(image, command, stream.fields());
     if table.len == 0 {
         return Ok(());
     }
     let bytes = image.bytes();
-    note_steps(bytes, stream, table.start, bytes.slice(table), known)
+    note_steps(bytes, stream, table.start, bytes.slice(table), notes)
 }
 
 // Notes the look-ups of a stream that begins at `start`.
-fn note_steps<'a>(
+fn note_steps<'a, N: Notes<'a>>(
     image: Bytes<'a>,
     one: Stream,
     start: u64,
     stream: Bytes<'a>,
-    known: &mut Known<'a>,
+    notes: &mut N,
 ) -> Result<(), AllocError>
     requires inside { start + length (bytes_of stream) ≤ length (bytes_of image) }
     requires near { start + length (bytes_of stream) < 2 ^ 64 }
-    ensures noted { IfOk result (λ _. WereNoted (bytes_of image.entry)
-        (StreamBinds one start (bytes_of stream.entry)) (by_name known.old) (by_name known.new)) }
-    ensures memory { OnErr result (SomeLooksUp (bytes_of image.entry) (StreamBinds one start (bytes_of stream.entry))) }
+    ensures noted { IfOk result (λ _. WereNoted N.are_of
+        (SomeLooksUp (bytes_of image.entry) (StreamBinds one start (bytes_of stream.entry))) notes.old notes.new) }
+    ensures memory { OnErr result
+        (HasAny (SomeLooksUp (bytes_of image.entry) (StreamBinds one start (bytes_of stream.entry)))) }
 {
     let mut cursor = Cursor::new();
     let mut aim = Aim::new();
@@ -217,7 +297,7 @@ fn note_steps<'a>(
             return Ok(());
         };
         let look_up = look_up_of(one, start, cursor, aim, step);
-        last = note_next(image, known, last, look_up)?;
+        last = note_next(image, notes, last, look_up)?;
         cursor.follow(step);
         aim.follow(step);
         place = next;
@@ -245,15 +325,14 @@ fn look_up_of(stream: Stream, start: u64, cursor: Cursor, aim: Aim, step: Step) 
 }
 
 // Notes the next look-up, unless it is the last one. It gives what is the last then.
-fn note_next<'a>(
+fn note_next<'a, N: Notes<'a>>(
     image: Bytes<'a>,
-    known: &mut Known<'a>,
+    notes: &mut N,
     last: Option<LookUp>,
     next: Option<LookUp>,
 ) -> Result<Option<LookUp>, AllocError>
     requires { IfSome next (λ look_up. end_of look_up.name ≤ length (bytes_of image)) }
-    ensures noted { IfOk result
-        (IsNextNoted (bytes_of image.entry) (by_name known.old) (by_name known.new) last next) }
+    ensures noted { IfOk result (IsNextNoted N.are_of (bytes_of image.entry) notes.old notes.new last next) }
     ensures memory { OnErr result (IsSomeAnd next (λ look_up. (from : Library) × IsFrom look_up.library from)) }
 {
     let Some(look_up) = next else {
@@ -263,15 +342,14 @@ fn note_next<'a>(
         return Ok(last);
     }
     let name = image.read_part(look_up.name);
-    note_look_up(known, name, look_up.library)?;
+    note_look_up(notes, name, look_up.library)?;
     Ok(next)
 }
 
 // Notes the look-ups by imports.
-fn note_chains<'a>(image: &Image<'a>, known: &mut Known<'a>) -> Result<(), AllocError>
-    requires unbroken { NothingBreaks (Breaks image.now None) }
-    requires opcodes { AreNoted (IsOpcodeLookUp image.now) (by_name known.old) }
-    ensures noted { IfOk result (λ _. AreNoted (IsLookUp image.now) (by_name known.new)) }
+fn note_chains<'a, N: Notes<'a>>(image: &Image<'a>, notes: &mut N) -> Result<(), AllocError>
+    requires { NothingBreaks (Breaks image.now None) }
+    ensures noted { IfOk result (λ _. WereNoted N.are_of (IsChainLookUp image.now) notes.old notes.new) }
     ensures memory { OnErr result (HasLookUp image.now) }
 {
     let Some(table) = ChainedFixups::of(image).table else {
@@ -283,24 +361,24 @@ fn note_chains<'a>(image: &Image<'a>, known: &mut Known<'a>) -> Result<(), Alloc
     if header.imports_end_past(table.bytes) {
         return Ok(());
     }
-    note_imports(table.bytes, header, known)
+    note_imports(table.bytes, header, notes)
 }
 
 // Notes the look-ups by the imports of a table, which lie in it.
-fn note_imports<'a>(
+fn note_imports<'a, N: Notes<'a>>(
     chains: Bytes<'a>,
     header: ChainHeader,
-    known: &mut Known<'a>,
+    notes: &mut N,
 ) -> Result<(), AllocError>
     requires { ¬ ImportsEndPast (bytes_of chains) header }
-    ensures noted { (image : List ℕ) → AreNoted (IsOpcodeLookUp image) (by_name known.old)
-        → IfOk result (λ _. AreNoted (IsOpcodeOrImport image (bytes_of chains.entry) header) (by_name known.new)) }
-    ensures memory { OnErr result (HasImportLookUp (bytes_of chains.entry) header) }
+    ensures noted { IfOk result (λ _.
+        WereNoted N.are_of (TableLooksUp (bytes_of chains.entry) header) notes.old notes.new) }
+    ensures memory { OnErr result (HasAny (TableLooksUp (bytes_of chains.entry) header)) }
 {
     for index in 0..header.imports_count {
         let import = header.import(chains, index);
         let name = string_at(chains, header.name_start(chains, index));
-        note_look_up(known, name, Some(library_by(import.ordinal)))?;
+        note_look_up(notes, name, Some(library_by(import.ordinal)))?;
     }
     Ok(())
 }
@@ -317,27 +395,31 @@ fn library_by(ordinal: Ordinal) -> Library
 }
 
 // Notes that a name is looked up in a library, unless it is looked up by weakness.
-fn note_look_up<'a>(
-    known: &mut Known<'a>,
+fn note_look_up<'a, N: Notes<'a>>(
+    notes: &mut N,
     name: &'a [u8],
     library: Option<Library>,
 ) -> Result<(), AllocError>
-    ensures noted { IfOk result (λ _. IsLookUpNoted (by_name known.old) (by_name known.new) name.now library) }
+    ensures noted { IfOk result (λ _.
+        WereNoted N.are_of (IsLookedUpIn name.now library) notes.old notes.new) }
     ensures memory { OnErr result ((from : Library) × IsFrom library from) }
 {
     match library {
-        Some(library) if library != Library::Special(WEAK_LOOKUP) => note(known, name, library),
+        Some(library) if library != Library::Special(WEAK_LOOKUP) => notes.note(name, library),
         _ => Ok(()),
     }
 }
 
-// Notes that a name is looked up in a library.
-fn note<'a>(known: &mut Known<'a>, name: &'a [u8], library: Library) -> Result<(), AllocError>
-    ensures { IfOk result (λ _. IsNoted (by_name known.old) (by_name known.new) name.now library) }
-{
-    let libraries = with_library(known.get(name).copied(), library);
-    known.insert(name, libraries)?;
-    Ok(())
+impl<'a> Notes<'a> for Known<'a> {
+    ghost use Rattle.macho_alike.specs.NotedLibraries.{AreKnown};
+
+    ghost are_of = { AreKnown };
+
+    fn note(&mut self, name: &'a [u8], library: Library) -> Result<(), AllocError> {
+        let libraries = with_library(self.get(name).copied(), library);
+        self.insert(name, libraries)?;
+        Ok(())
+    }
 }
 
 // What is known of a name, with one library more.

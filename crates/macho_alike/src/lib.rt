@@ -6,6 +6,7 @@
 mod bind_names;
 pub mod binds;
 pub mod bounds;
+mod claims;
 pub mod definitions;
 pub mod export_symbol;
 pub mod exports;
@@ -13,6 +14,7 @@ pub mod imports;
 pub mod indirects;
 pub mod law;
 mod names;
+mod notes;
 pub mod symbol_total;
 pub mod symbols;
 mod trie;

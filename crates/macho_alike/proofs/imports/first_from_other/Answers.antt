@@ -5,7 +5,8 @@ use Rattle.macho_image.specs.declared.symtab.Symtab.{Symtab}
 use Rattle.macho_rules.proofs.Searches.{search_next, search_found, search_ended}
 use Rattle.macho_rules.proofs.SymbolItems.{symbols_search, symtab_first, symtab_read}
 use Rattle.macho_alike.specs.Imports.{IsFromOther, BreaksImportLibrary}
-use Rattle.macho_alike.proofs.ImportSymbols.{AtOther, breaks_where, others_break, no_others}
+use Rattle.macho_alike.proofs.ImportSymbols.{AtOther, breaks_where, no_others}
+use Rattle.macho_alike.proofs.SymbolWalks.{symbols_break}
 use Rattle.macho_alike.proofs.imports.first_from_other.Goals as goal
 
 pub returns-in_err-symtab : goal.returns-in_err-symtab
@@ -34,7 +35,7 @@ returns-then-is_from_other c =
     let begins = ap (λ (t : Symtab). t.stroff) (symtab_read image symtab c.in_ok-symtab.ensures) in
     let says = (rw c.bytes.ensures.bytes at c.is_from_other.ensures) symtab.place begins c.requires.noted in
     breaks_where image (AtOther image) c.requires.two_level (Some c.in-Some.symbol.place)
-    (search_found (AtOther image) (λ s. s.place) (IsFromOther image symtab.place) _ _ _ c.in-Some.symbol c.in-Some.ensures.steps (others_break image _ are c.requires.unbroken symtab.place left.first)
+    (search_found (AtOther image) (λ s. s.place) (IsFromOther image symtab.place) _ _ _ c.in-Some.symbol c.in-Some.ensures.steps (symbols_break image _ are c.requires.unbroken (IsFromOther image) symtab.place left.first)
     left.search (says.0 c.if-is_from_other.true))
 
 pub loop-symbol-preserved : goal.loop-symbol-preserved
@@ -59,4 +60,4 @@ returns c =
     let are = c.into_iter-symbol-iterator.ensures.into_iter_gives ∙ c.symbols-symbol-items.ensures in
     let left = c.loop-symbol.invariant.2 in
     breaks_where image (AtOther image) c.requires.two_level None
-    (search_ended (AtOther image) (λ s. s.place) (IsFromOther image symtab.place) _ _ c.in-None.ensures.steps.0 (others_break image _ are c.requires.unbroken symtab.place left.first) left.search)
+    (search_ended (AtOther image) (λ s. s.place) (IsFromOther image symtab.place) _ _ c.in-None.ensures.steps.0 (symbols_break image _ are c.requires.unbroken (IsFromOther image) symtab.place left.first) left.search)

@@ -1,0 +1,60 @@
+use Rattle.std.proofs.Common.{◌≡◌, ◌∙◌, None, Some, sym, ap, ap₂}
+use Rattle.std.proofs.lemmas.Bool.{false≢true}
+use Rattle.macho_fields.specs.Symbol.{stroff}
+use Rattle.macho_image.specs.Symbol.{symbol_at}
+use Rattle.macho_image.specs.declared.symtab.Symtab.{Symtab}
+use Rattle.macho_rules.proofs.Searches.{search_ended}
+use Rattle.macho_rules.proofs.SymbolItems.{symbols_search, symtab_first, symtab_read}
+use Rattle.macho_symbols.specs.Nlist.{library_ordinal}
+use Rattle.macho_alike.specs.Claims.{claim_of, claim_at, IsUnclaimed}
+use Rattle.macho_alike.specs.Definitions.{name_of}
+use Rattle.macho_alike.proofs.AgreedClaims.{unnamed_next, claimed_next, among_itself, among_pushed, has_pushed}
+use Rattle.macho_alike.proofs.SymbolWalks.{symbols_break, nothing_at}
+use Rattle.macho_alike.proofs.imports.claim_symbols.Goals as goal
+
+pub returns-in_default-clause-claimed : goal.returns-in_default-clause-claimed
+returns-in_default-clause-claimed c =
+    let image = c.args.image.now in
+    nothing_at image c.in_default.ensures (λ symtab symbol. IsUnclaimed image c.args.claims.now.items symtab (symbol_at image symbol))
+
+pub loop-symbol-init : goal.loop-symbol-init
+loop-symbol-init c = (
+  tt,
+  tt,
+  symbols_search c.args.image.now _ (c.into_iter-symbol-iterator.ensures.into_iter_gives ∙ c.symbols-symbol-items.ensures) (IsUnclaimed c.args.image.now c.args.claims.now.items c.in-Some.symtab.place),
+  among_itself c.args.claims.now.items,
+)
+
+pub loop-symbol-preserved-in-Continue-1 : goal.loop-symbol-preserved-in-Continue-1
+loop-symbol-preserved-in-Continue-1 c =
+    let image = c.args.image.now in
+    let symtab = c.in-Some.symtab in
+    let symbol = c.in-Some-symbol.symbol in
+    let begins : symtab.stroff ≡ stroff image symtab.place = ap (λ (t : Symtab). t.stroff) (symtab_read image symtab c.in-Some.ensures) in
+    let name = (rw c.bytes.ensures.bytes at c.in-Some-imported_name.ensures.name) symtab.place begins in
+    let claim : c.new.result ≡ claim_at image symtab.place symbol = c.new.ensures ∙ ap₂ claim_of name (ap Some c.library_ordinal.ensures) in
+    let among = among_pushed c.loop-symbol.claims.items c.push.new.self.items c.new.result c.in_ok-push.ensures.items in (
+      tt,
+      tt,
+      claimed_next image symtab.place _ _ _ symbol c.in-Some-symbol.ensures.steps c.loop-symbol.claims.items c.loop-symbol.invariant.2 c.push.new.self.items among
+          (has_pushed c.loop-symbol.claims.items c.push.new.self.items c.new.result (claim_at image symtab.place symbol) c.in_ok-push.ensures.items claim),
+      λ other has. among other (c.loop-symbol.invariant.3 other has),
+    )
+
+pub loop-symbol-preserved : goal.loop-symbol-preserved
+loop-symbol-preserved c = (
+  tt,
+  tt,
+  unnamed_next c.args.image.now c.in-Some.symtab.place _ _ _ c.in-Some-symbol.symbol c.in-Some-symbol.ensures.steps c.loop-symbol.claims.items c.loop-symbol.invariant.2
+      (λ imports. false≢true (c.in_default-imported_name.ensures.named.1 imports)),
+  c.loop-symbol.invariant.3,
+)
+
+pub returns-clause-claimed : goal.returns-clause-claimed
+returns-clause-claimed c =
+    let image = c.args.image.now in
+    let symtab = c.in-Some.symtab in
+    let claims = c.loop-symbol.claims.items in
+    let are = c.into_iter-symbol-iterator.ensures.into_iter_gives ∙ c.symbols-symbol-items.ensures in
+    search_ended _ (λ s. s.place) (IsUnclaimed image claims symtab.place) _ _ c.in-None.ensures.steps.0
+    (symbols_break image _ are c.requires (IsUnclaimed image claims) symtab.place (symtab_first image symtab c.in-Some.ensures)) c.loop-symbol.invariant.2
