@@ -1,5 +1,5 @@
 -- Claims agree where no symbol is from another library than its name is looked up in.
-use Rattle.std.proofs.Common.{◌≡◌, ◌⊎◌, ◌∙◌, ℕ, zero, suc, ◌+◌, ◌-◌, ◌≤◌, ◌<◌, List, [], ◌∷◌, ◌++◌, length, get_or, map, Option, Some, None, Contains, true, false, refl, sym, ap, subst, arith, add-zero, inl, inr}
+use Rattle.std.proofs.Common.{◌≡◌, ◌∙◌, ℕ, zero, suc, ◌+◌, ◌-◌, ◌≤◌, ◌<◌, List, [], ◌∷◌, ◌++◌, length, get_or, map, Some, Contains, refl, sym, ap, ap₂, subst, arith, add-zero, inl, inr}
 use Rattle.std.specs.Prelude.{nat_lt, ◌==◌, if◌then◌else◌}
 use Rattle.std.specs.List.{AllAdjacentBelow}
 use Rattle.std.specs.List.Sorted.{IsNonDecreasingBy, IsPermutation}
@@ -14,7 +14,7 @@ use Rattle.macho_image.specs.Symbol.{symbol_at}
 use Rattle.macho_image.specs.declared.symbol.Symbol.{Symbol}
 use Rattle.macho_rules.proofs.Searches.{Searching, search_next}
 use Rattle.macho_symbols.specs.Nlist.{library_ordinal}
-use Rattle.macho_alike.specs.Claims.{ordinal_of, claim_by, claim_at, AreAmong, IsUnclaimed, NoneIsUnclaimed, AgreesWith, Agree}
+use Rattle.macho_alike.specs.Claims.{ordinal_of, claim_of, claim_by, claim_at, AreAmong, IsUnclaimed, NoneIsUnclaimed, AgreesWith, Agree}
 use Rattle.macho_alike.specs.Definitions.{name_of}
 use Rattle.macho_alike.specs.Imports.{ImportsName, library_of, IsLookUp, IsFromOther, NoneIsFromOther, HasLookUp}
 use Rattle.macho_alike.specs.LookUps.{LookUps, WereListed}
@@ -58,10 +58,11 @@ said (library.Special below) number is = elim (cases_Bool (below == special.MAIN
   ]
 ]
 
--- Neighbours
+-- what a symbol says, as it is read
+pub same_claim : (claim : Claim) (name own : List ℕ) (number ordinal : ℕ) → claim ≡ claim_of name (Some number) → name ≡ own → number ≡ ordinal → claim ≡ claim_of own (Some ordinal)
+same_claim claim name own number ordinal is same_name same = is ∙ ap₂ (λ (n : List ℕ) (k : ℕ). claim_of n (Some k)) same_name same
 
-pub agree_none : (claims : List Claim) → AllAdjacentBelow AgreesWith claims 1
-agree_none claims = λ k d less. absurd (omega (arith, less))
+-- Neighbours
 
 module _ (claims : List Claim) (sorted : IsNonDecreasingBy (λ (claim : Claim). claim.hash) claims) (adjacent : AllAdjacentBelow AgreesWith claims (length claims)) where
   from_on : (d : Claim) (i n : ℕ) → i + n < length claims → (get_or claims i d).hash ≡ (get_or claims (i + n) d).hash → (get_or claims i d).ordinal ≡ (get_or claims (i + n) d).ordinal

@@ -1,8 +1,7 @@
 -- The pointers of chains that bind imports, one after the other.
-use Rattle.std.proofs.Common.{◌≡◌, ◌↔◌, ◌⊎◌, ◌∙◌, ℕ, suc, ◌+◌, ◌*◌, ◌≤◌, ◌<◌, List, [], ◌∷◌, ◌++◌, length, get_or, Option, Some, None, refl, sym, ap, subst, arith, inl, inr}
-use Rattle.std.specs.Prelude.{IsSomeAnd, MatchOption}
+use Rattle.std.proofs.Common.{◌≡◌, ◌↔◌, ◌⊎◌, ◌∙◌, ℕ, ◌+◌, ◌≤◌, ◌<◌, List, [], ◌∷◌, ◌++◌, length, get_or, Option, Some, None, refl, sym, ap, subst, arith, inl, inr}
+use Rattle.std.specs.Prelude.{IsSomeAnd}
 use Rattle.std.proofs.lemmas.Bool.{cases_lt}
-use Rattle.std.proofs.lemmas.Option.{none-some, same_Some}
 use Rattle.macho_fields.specs.Bytes.{bytes_of}
 use Rattle.macho_fields.specs.Field.{part}
 use Rattle.macho_fields.specs.LoadCommands.{linkedit_data_table}
@@ -15,12 +14,12 @@ use Rattle.macho_tables.specs.Homes.{bytes_of_table}
 use Rattle.macho_chains.specs.ChainHeader.{chain_header}
 use Rattle.macho_chains.specs.ChainPointers.{pointer_at, page_start_offset, first_offset, Fits, Lead, HasChain, ComesTo, BreaksPageSlot, OfSomePage, BreaksChainSlot}
 use Rattle.macho_chains.specs.ChainStarts.{seg_count, starts_of, HasBadEntries, BreaksChainStarts}
-use Rattle.macho_chains.specs.Chains.{BadStarts, HasHeader, InChains, InPointers, OfTable, chained_fixups, IsChainTable, IsTableOf}
+use Rattle.macho_chains.specs.Chains.{BadStarts, InChains, InPointers, OfTable, chained_fixups, IsChainTable, IsTableOf}
 use Rattle.macho_chains.specs.declared.chain_header.ChainHeader.{ChainHeader}
 use Rattle.macho_chains.specs.declared.chain_pointers.ChainPointer.{ChainPointer}
 use Rattle.macho_chains.specs.declared.chain_starts.SegmentStarts.{SegmentStarts}
 use Rattle.macho_chains.specs.declared.chains.ChainTable.{ChainTable}
-use Rattle.macho_chains.proofs.ChainTables.{chain_table_of, chain_table_some}
+use Rattle.macho_chains.proofs.ChainTables.{chain_table_of}
 use Rattle.macho_chains.proofs.UnbrokenPointers.{surely_fits, lead_on}
 use Rattle.macho_alike.specs.Bounds.{IsPointerBound, IsRestBound, IsSegmentBound, IsTableBound}
 use Rattle.macho_alike.specs.Indirects.{IsImportName, IsPageBound, IsChainBound}

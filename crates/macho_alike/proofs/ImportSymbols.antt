@@ -1,25 +1,15 @@
 -- The search for a symbol that is from another library than fixups say, and what holds without one.
-use Rattle.std.proofs.Common.{◌≡◌, ◌∙◌, ℕ, ◌+◌, ◌*◌, ◌<◌, List, Option, None, Some, refl, sym, subst, lit<, inl, inr}
+use Rattle.std.proofs.Common.{◌≡◌, ◌∙◌, ℕ, ◌+◌, ◌*◌, ◌<◌, List, Option, None, Some, refl, sym, inl, inr}
 use Rattle.std.specs.Option.{option_map}
-use Rattle.std.proofs.lemmas.Option.{same_Some}
-use Rattle.macho_fields.proofs.FirstPlaces.{AreBreaks}
 use Rattle.macho_fields.proofs.Lists.{any_of}
 use Rattle.macho_fields.specs.FirstPlace.{IsLeastPlace}
 use Rattle.macho_fields.specs.Image.{commands_of, with_cmd}
-use Rattle.macho_fields.specs.Layers.{NothingBreaks}
-use Rattle.macho_fields.specs.LoadCommands.{symbol_table}
-use Rattle.macho_fields.specs.Rules.{BreaksImage}
 use Rattle.macho_fields.specs.Symbol.{symoff, nsyms, AtSymbol}
 use Rattle.macho_fields.specs.declared.header.loader.TheConstants as loader
-use Rattle.macho_fields.specs.declared.load_command.Structure.TheVariants.{SymtabCommand}
-use Rattle.macho_fields.specs.declared.rule.Rule.TheVariants as rule
-use Rattle.macho_fields.proofs.LoadCommands.{symbols_listed}
 use Rattle.macho_image.specs.Command.{first_with_cmd}
 use Rattle.macho_image.specs.Symbol.{symbol_at, symtab_at}
 use Rattle.macho_image.specs.declared.symbol.Symbol.{Symbol}
 use Rattle.macho_rules.proofs.Searches.{Searching}
-use Rattle.macho_rules.proofs.SymbolItems.{AreSymbols}
-use Rattle.macho_rules.proofs.TableItems.{items_break, table_inside}
 use Rattle.macho_symbols.specs.Header.{IsTwoLevel}
 use Rattle.macho_alike.specs.ImportModels.{HasImport, IsLibraryOf, HasOneLibrary}
 use Rattle.macho_alike.specs.Imports.{library_of, IsFromOther, BreaksImportLibrary}

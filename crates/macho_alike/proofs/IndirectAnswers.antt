@@ -1,9 +1,7 @@
 -- A bound pointer of a section has one name.
-use Rattle.std.proofs.Common.{◌≡◌, ◌↔◌, ◌⊎◌, ◌∙◌, ℕ, ◌+◌, List, slice_get, Option, refl, sym, ap, subst, inl, inr}
+use Rattle.std.proofs.Common.{◌≡◌, ◌∙◌, ℕ, ◌+◌, List, slice_get, refl, sym, ap, subst, inl, inr}
 use Rattle.std.specs.Prelude.{IsSomeAnd}
-use Rattle.std.specs.Bool.{Decides}
 use Rattle.std.proofs.lemmas.Option.{same_Some}
-use Rattle.std.proofs.lemmas.Slice.Eq.{bytes_eq-Decides}
 use Rattle.macho_fields.specs.Field.{string_from}
 use Rattle.macho_fields.specs.Image.{commands_of}
 use Rattle.macho_fields.specs.Symbol.{stroff, IsSymbolIndex}
@@ -12,10 +10,8 @@ use Rattle.macho_fields.proofs.Options.{some_of, of_some}
 use Rattle.macho_image.specs.Command.{first_with_cmd}
 use Rattle.macho_image.specs.declared.indirect.Indirect.{Indirect}
 use Rattle.macho_image.specs.declared.symbol.Symbol.{Symbol}
-use Rattle.macho_rules.proofs.Searches.{any_of, one_of}
-use Rattle.macho_alike.specs.IndirectModels.{IsNameByBind, IsShownName, IsNameOfEntry, IsNameByEntry, HasOneNameOfPointer}
-use Rattle.macho_alike.specs.Indirects.{HasEntry, entry_with, HasOwnName, IsNameStart, IsNameOf, IsOfAnotherName, BreaksIndirectName, symbols_in}
-use Rattle.macho_alike.specs.declared.bounds.Bound.{Bound}
+use Rattle.macho_alike.specs.IndirectModels.{IsShownName, IsNameOfEntry, HasOneNameOfPointer}
+use Rattle.macho_alike.specs.Indirects.{HasEntry, entry_with, HasOwnName, IsNameOf, IsOfAnotherName, BreaksIndirectName, symbols_in}
 use Rattle.macho_alike.proofs.SaidNames.{same_text}
 
 module _ (image : List ℕ) where

@@ -17,7 +17,7 @@ use Rattle.macho_opcodes.specs.declared.step.Step.{Step}
 use Rattle.macho_opcodes.specs.declared.step.Step.TheVariants as step
 use Rattle.macho_opcodes.specs.declared.streams.Stream.{Stream}
 use Rattle.macho_opcodes.specs.declared.streams.Stream.TheVariants as streams
-use Rattle.macho_alike.specs.Binds.{no_aim, aimed, looked_in, slot_offset, StepBinds, StreamBinds, BindsOf, IsBind}
+use Rattle.macho_alike.specs.Binds.{no_aim, aimed, looked_in, slot_offset, StepBinds, StreamBinds, BindsOf}
 use Rattle.macho_alike.specs.BindLists.{WereAdded, AreSpread, first_of, spread}
 use Rattle.macho_alike.specs.Imports.{IsFrom, BindLooksUp, IsOpcodeLookUp}
 use Rattle.macho_alike.specs.LookUps.{LookUps, WereListed, WereNoted, HasAny, IsLookedUpIn, SomeLooksUp, text_of, IsNextNoted, BindsNothing, IsLookUpOf}

@@ -1,5 +1,5 @@
 -- What is said of indirect entries, as binds: two of them clash where the rule is broken.
-use Rattle.std.proofs.Common.{◌≡◌, ◌≢◌, ◌↔◌, ◌⊎◌, ◌∙◌, ℕ, ℤ, zero, suc, ◌+◌, ◌-◌, ◌*◌, ◌/◌, ◌^◌, ◌≤◌, ◌<◌, ◌==◌, Bool, true, false, List, [], ◌∷◌, ◌++◌, get_or, length, map, take, drop, slice_get, Option, Some, None, Contains, Any, refl, sym, ap, ap₂, subst, arith, inl, inr}
+use Rattle.std.proofs.Common.{◌≡◌, ◌↔◌, ◌⊎◌, ◌∙◌, ℕ, zero, suc, ◌+◌, ◌*◌, ◌/◌, ◌^◌, ◌≤◌, ◌<◌, ◌==◌, Bool, false, List, [], ◌∷◌, ◌++◌, get_or, length, map, take, drop, slice_get, Option, Some, None, Contains, Any, refl, sym, ap, subst, arith, inl, inr}
 use Rattle.std.specs.Prelude.{pos, nat_lt, IsSomeAnd, IsPermutation, bit_and}
 use Rattle.std.specs.Bool.{Decides}
 use Rattle.std.specs.List.{position_or_len}
@@ -22,10 +22,9 @@ use Rattle.macho_image.specs.declared.indirect.Indirect.{Indirect}
 use Rattle.macho_image.specs.declared.symbol.Symbol.{Symbol}
 use Rattle.macho_rules.proofs.Searches.{any_of, one_of, mapped_has}
 use Rattle.macho_spans.specs.Span.{end_of}
-use Rattle.macho_spans.specs.declared.span.Span.{Span}
 use Rattle.macho_alike.specs.BindLists.{IsInside, AreInside, ClashAt}
-use Rattle.macho_alike.specs.Binds.{IsSame, Clash, name_of}
-use Rattle.macho_alike.specs.Bounds.{IsSymbolName, IsSaidOf, IsSaidAt, IsSaidFor, IsSaidBy, span_of, mark_of, bind_of, SaysOtherwise}
+use Rattle.macho_alike.specs.Binds.{Clash}
+use Rattle.macho_alike.specs.Bounds.{IsSymbolName, IsSaidOf, IsSaidAt, IsSaidBy, span_of, mark_of, bind_of, SaysOtherwise}
 use Rattle.macho_alike.specs.Indirects.{IsBound, HasPointers, IsPointerOf, HasEntry, entry_with, HasOwnName, IsNameStart, IsNameOf, IsOfAnotherName, BreaksIndirectName, symbols_in}
 use Rattle.macho_alike.specs.declared.binds.Bind.{Bind}
 use Rattle.macho_alike.specs.declared.binds.Compared.{Compared}

@@ -1,5 +1,5 @@
 -- The places of the segments of an image, one after the other.
-use Rattle.std.proofs.Common.{◌≡◌, ◌∙◌, ℕ, List, [], ◌∷◌, ◌++◌, map, refl, sym, ap, subst}
+use Rattle.std.proofs.Common.{◌≡◌, ℕ, List, [], ◌∷◌, ◌++◌, map, refl, ap}
 use Rattle.macho_image.specs.Segment.{SegmentView, segment_at}
 
 abbrev pub places_of : List SegmentView → List ℕ

@@ -1,4 +1,4 @@
-use Rattle.std.proofs.Common.{◌≡◌, ◌∙◌, ◌+◌, ◌<◌, ◌⊎◌, ℕ, List, length, sym, ap, subst, arith, inl, inr}
+use Rattle.std.proofs.Common.{◌≡◌, ◌∙◌, ◌+◌, ◌<◌, ℕ, List, length, sym, ap, subst, arith, inl, inr}
 use Rattle.macho_fields.specs.Bytes.{bytes_of}
 use Rattle.macho_fields.specs.Image.{long}
 use Rattle.macho_fields.specs.Segment.{fileoff}

@@ -1,4 +1,4 @@
-use Rattle.std.proofs.Common.{◌≡◌, ◌∙◌, [], ◌∷◌, ◌++◌, ℕ, List, refl, sym, ap}
+use Rattle.std.proofs.Common.{◌∙◌, [], ◌∷◌, ◌++◌, ℕ, List, sym, ap}
 use Rattle.macho_image.specs.Segment.{SegmentView}
 use Rattle.macho_fields.specs.Segment.{all_segments}
 use Rattle.macho_alike.proofs.SegmentPlaces.{places_of, seam, no_more, places_back}

@@ -1,4 +1,4 @@
-use Rattle.std.proofs.Common.{◌≡◌, ◌∙◌, None, Some, sym, ap, ap₂}
+use Rattle.std.proofs.Common.{◌≡◌, ◌∙◌, ap}
 use Rattle.std.proofs.lemmas.Bool.{false≢true}
 use Rattle.macho_fields.specs.Symbol.{stroff}
 use Rattle.macho_image.specs.Symbol.{symbol_at}
@@ -6,9 +6,9 @@ use Rattle.macho_image.specs.declared.symtab.Symtab.{Symtab}
 use Rattle.macho_rules.proofs.Searches.{search_ended}
 use Rattle.macho_rules.proofs.SymbolItems.{symbols_search, symtab_first, symtab_read}
 use Rattle.macho_symbols.specs.Nlist.{library_ordinal}
-use Rattle.macho_alike.specs.Claims.{claim_of, claim_at, IsUnclaimed}
+use Rattle.macho_alike.specs.Claims.{claim_at, IsUnclaimed}
 use Rattle.macho_alike.specs.Definitions.{name_of}
-use Rattle.macho_alike.proofs.AgreedClaims.{unnamed_next, claimed_next, among_itself, among_pushed, has_pushed}
+use Rattle.macho_alike.proofs.AgreedClaims.{same_claim, unnamed_next, claimed_next, among_itself, among_pushed, has_pushed}
 use Rattle.macho_alike.proofs.SymbolWalks.{symbols_break, nothing_at}
 use Rattle.macho_alike.proofs.imports.claim_symbols.Goals as goal
 
@@ -32,7 +32,7 @@ loop-symbol-preserved-in-Continue-1 c =
     let symbol = c.in-Some-symbol.symbol in
     let begins : symtab.stroff ≡ stroff image symtab.place = ap (λ (t : Symtab). t.stroff) (symtab_read image symtab c.in-Some.ensures) in
     let name = (rw c.bytes.ensures.bytes at c.in-Some-imported_name.ensures.name) symtab.place begins in
-    let claim : c.new.result ≡ claim_at image symtab.place symbol = c.new.ensures ∙ ap₂ claim_of name (ap Some c.library_ordinal.ensures) in
+    let claim : c.new.result ≡ claim_at image symtab.place symbol = same_claim c.new.result c.in-Some-imported_name.name.now (name_of image symtab.place symbol) c.library_ordinal.result (library_ordinal symbol) c.new.ensures name c.library_ordinal.ensures in
     let among = among_pushed c.loop-symbol.claims.items c.push.new.self.items c.new.result c.in_ok-push.ensures.items in (
       tt,
       tt,

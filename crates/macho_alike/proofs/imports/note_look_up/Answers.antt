@@ -1,4 +1,4 @@
-use Rattle.std.proofs.Common.{◌≢◌, ℕ, List, Option, Some, IfOk, rules, sym, subst}
+use Rattle.std.proofs.Common.{◌≢◌, Option, IfOk, rules, sym, subst}
 use Rattle.macho_alike.specs.LookUps.{WereNoted, IsLookedUp, IsLookedUpIn}
 use Rattle.macho_alike.specs.declared.binds.Library.{Library}
 use Rattle.macho_alike.specs.declared.binds.Library.TheVariants as library

@@ -1,4 +1,3 @@
-use Rattle.std.proofs.Common.{◌⊎◌}
 use Rattle.macho_alike.specs.Imports.{IsOpcodeLookUp, IsChainLookUp, IsLookUp}
 use Rattle.macho_alike.proofs.BindLists.{if_ok}
 use Rattle.macho_alike.proofs.NotedLookUps.{noted_then}

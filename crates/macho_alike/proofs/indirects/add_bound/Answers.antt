@@ -1,4 +1,4 @@
-use Rattle.std.proofs.Common.{◌≡◌, ◌∙◌, ℕ, List, sym, subst}
+use Rattle.std.proofs.Common.{◌∙◌, ℕ, List, sym, subst}
 use Rattle.std.proofs.lemmas.Option.{none-some, same_Some}
 use Rattle.macho_alike.specs.Bounds.{IsSaidAt, IsSaidFor}
 use Rattle.macho_alike.specs.Indirects.{IsPointerOf}

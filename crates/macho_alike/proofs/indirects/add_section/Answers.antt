@@ -1,7 +1,7 @@
 use Rattle.std.proofs.Common.{◌≡◌, ◌∙◌, ℕ, List, get_or, length, sym, subst, arith}
 use Rattle.std.proofs.lemmas.Bool.{false≢true}
 use Rattle.macho_alike.specs.Bounds.{WereGathered, IsSaidFor, IsSaidBy}
-use Rattle.macho_alike.specs.Indirects.{IsPointerOf, HasPointers}
+use Rattle.macho_alike.specs.Indirects.{IsPointerOf}
 use Rattle.macho_alike.proofs.Gathered.{OfBelow, OfSome, below_start, below_more, below_listed, gathered_none, gathered_same}
 use Rattle.macho_alike.proofs.SaidNames.{no_bound}
 use Rattle.macho_alike.proofs.indirects.add_section.Goals as goal

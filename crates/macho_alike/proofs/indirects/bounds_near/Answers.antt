@@ -1,4 +1,4 @@
-use Rattle.std.proofs.Common.{◌≡◌, ◌∙◌, ℕ, ◌+◌, ◌-◌, ap, ap₂, arith}
+use Rattle.std.proofs.Common.{◌≡◌, ◌∙◌, ap, arith}
 use Rattle.macho_fields.specs.Segment.{vmaddr, section_address, section_size}
 use Rattle.macho_image.specs.Segment.{SegmentView}
 use Rattle.macho_alike.proofs.indirects.bounds_near.Goals as goal

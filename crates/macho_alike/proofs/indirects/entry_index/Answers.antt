@@ -1,6 +1,6 @@
-use Rattle.std.proofs.Common.{◌≡◌, ◌+◌, ◌/◌, ◌≤◌, ◌<◌, ◌∙◌, ℕ, sym, ap, ap₂, subst}
+use Rattle.std.proofs.Common.{◌+◌, ◌/◌, ◌≤◌, ◌<◌, ◌∙◌, ℕ, sym, ap, ap₂, subst}
 use Rattle.std.proofs.lemmas.Option.{none-some}
-use Rattle.macho_fields.specs.Segment.{vmaddr, section_address, section_size}
+use Rattle.macho_fields.specs.Segment.{vmaddr}
 use Rattle.macho_image.specs.Segment.{SegmentView}
 use Rattle.macho_alike.proofs.SaidNames.{no_item, past_items, the_index}
 use Rattle.macho_alike.proofs.indirects.entry_index.Goals as goal

@@ -1,4 +1,4 @@
-use Rattle.std.proofs.Common.{◌≡◌, ◌+◌, ◌<◌, ◌^◌, ◌∙◌, ℕ, length, slice_get, Some, Contains, sym, ap, arith}
+use Rattle.std.proofs.Common.{◌≡◌, ◌∙◌, slice_get, Some, Contains, sym, ap, arith}
 use Rattle.std.proofs.lemmas.Option.{slice_get_within, get_or_from_slice_get}
 use Rattle.macho_fields.specs.Image.{commands_of}
 use Rattle.macho_fields.specs.declared.header.loader.TheConstants.{LC_SYMTAB}

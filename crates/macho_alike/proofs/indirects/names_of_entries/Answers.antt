@@ -1,7 +1,7 @@
-use Rattle.std.proofs.Common.{◌≡◌, ◌∙◌, List, Contains, sym, subst}
+use Rattle.std.proofs.Common.{◌∙◌, List, Contains, sym, subst}
 use Rattle.macho_fields.proofs.Lists.{contains_first, contains_later}
 use Rattle.macho_image.specs.Segment.{SectionView}
-use Rattle.macho_alike.proofs.Gathered.{OfSome, walk_start, walk_step, walk_end, some_next, some_none, gathered_all, gathered_same}
+use Rattle.macho_alike.proofs.Gathered.{OfSome, walk_start, walk_step, walk_end, some_next, some_none, gathered_all}
 use Rattle.macho_alike.proofs.SaidNames.{SaidIn, of_image, in_sections}
 use Rattle.macho_alike.proofs.indirects.names_of_entries.Goals as goal
 

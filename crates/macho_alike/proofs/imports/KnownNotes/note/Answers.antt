@@ -1,5 +1,5 @@
 use Rattle.std.proofs.Common.{◌∙◌, Option, subst}
-use Rattle.macho_alike.specs.NotedLibraries.{by_name, IsWith, IsNoted, AreKnown}
+use Rattle.macho_alike.specs.NotedLibraries.{IsWith, AreKnown}
 use Rattle.macho_alike.specs.declared.imports.Libraries.{Libraries}
 use Rattle.macho_alike.proofs.NotedLibraries.{with_by, known_more}
 use Rattle.macho_alike.proofs.NotedLookUps.{noted_one}
