@@ -59,7 +59,7 @@ abbrev pub blobs_left : ℕ → List ℕ → KesvuotCursor → List KesvuotBlob
 blobs_left place image cursor = blobs_at place image (begun (first_blob image) cursor)
 
 -- By the image alone: the blobs in place of the data of its command, which all lies inside the image, and each
--- blob of the index where none is bad. None without such a command.
+-- blob of the index if all are good. No blobs without the command.
 abbrev pub HasAllBlobs : ℕ → List ℕ → List KesvuotBlob → Type 0
 HasAllBlobs place image rows =
     MatchOption (only image loader.LC_CODE_SIGNATURE) (rows ≡ []) (λ command.

@@ -33,8 +33,8 @@ relocation_rows image reloff nreloc =
 abbrev pub relocations_left : List ℕ → ℕ → ℕ → KesvuotCursor → List KesvuotRelocation
 relocations_left image reloff nreloc cursor = drop cursor.items (relocation_rows image reloff nreloc)
 
--- Where reloff and nreloc are a section's, there are nreloc rows: none is left out because its table
--- does not lie inside the image.
+-- Where reloff and nreloc are a section's, there are nreloc rows: the table does not pass the image, so no row is left
+-- out.
 abbrev pub HasAllRelocations : List ℕ → ℕ → ℕ → List KesvuotRelocation → Type 0
 HasAllRelocations image reloff nreloc rows =
     (section : ℕ)

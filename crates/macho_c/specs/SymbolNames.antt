@@ -1,4 +1,4 @@
--- What a symbol that is found by its name says of the name. (mach-o/nlist.h: nlist_64)
+-- The symbol that is found by its name says this of the name. (mach-o/nlist.h: nlist_64)
 use Rattle.std.specs.Prelude.{◌≡◌, ℕ, List, Some, bit_and}
 use Rattle.macho_fields.specs.Image.{commands_of}
 use Rattle.macho_fields.specs.declared.header.loader.TheConstants.{LC_SYMTAB}

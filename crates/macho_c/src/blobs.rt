@@ -22,9 +22,9 @@ use macho_signature::{Blob, Superblob};
 pub struct KesvuotBlob {
     /// Where it lies in the file, with its magic number and its length.
     pub bytes: KesvuotSpan,
-    /// What it is in the signature, `type` of its entry.
+    /// Its kind in the signature, `type` of its entry.
     pub slot: u32,
-    /// What it is by itself.
+    /// Its own kind, the magic number.
     pub magic: u32,
 }
 

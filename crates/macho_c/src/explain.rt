@@ -18,7 +18,7 @@ pub struct KesvuotPart {
     pub size: u64,
     /// Where the structure begins in the file that describes it.
     pub described: u64,
-    /// What it is: a number of `part_number`, or 0 of no part.
+    /// Its kind: a number of `part_number`, or 0 of no part.
     pub kind: u32,
     /// Which one it is of its kind, or `NO_INDEX`.
     pub index: u32,

@@ -104,7 +104,7 @@ IsOther image symbol other =
     DefinesName other × DefinesName symbol × (name_in image other ≡ name_in image symbol)
     × (meaning_of other ≢ meaning_of symbol)
 
--- one of the first symbols, so many, is such a one
+-- among so many first symbols, one says another thing of the name
 abbrev pub IsOtherBefore : List ℕ → Symbol → ℕ → Type 0
 IsOtherBefore image symbol index =
     (k : ℕ) × (k < index) × IsSomeAnd (slice_get (symbols_in image) k) (IsOther image symbol)
@@ -129,7 +129,7 @@ exported_address image name =
     (find_export (part table.start table.len image) name)
     else None) (export_table image)
 
--- the same as a number, and 0 where none is found
+-- the same as a number, which is 0 where no export is found
 abbrev pub exported_value : List ℕ → List ℕ → ℕ
 exported_value image name = option_map_or (λ address. address) (exported_address image name) 0
 

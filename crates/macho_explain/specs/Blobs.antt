@@ -21,11 +21,11 @@ IsFirstBad signature k = IsBadBlob signature k × ((j : ℕ) → j < k → ¬ Is
 abbrev pub IsOtherLimit : ℕ → List ℕ → ℕ → Type 0
 IsOtherLimit start signature k = IsSomeAnd (code_directory (bytes_at signature k)) (λ directory. directory.limit ≢ start)
 
--- the blob k is no sound code directory
+-- the blob k is not a sound code directory
 abbrev pub IsNotSound : ℕ → List ℕ → ℕ → Type 0
 IsNotSound start signature k = ¬ IsSoundDirectory start (bytes_at signature k)
 
--- What the rules are about
+-- The subjects of the rules
 
 -- the start of a signature that has no superblob; or the entry of the first misplaced blob
 abbrev pub IsBlobAt : ℕ → List ℕ → ℕ → Type 0
@@ -33,7 +33,8 @@ IsBlobAt start signature offset =
     ((offset ≡ 0) × HasNoSuperblob signature)
     ⊎ ((¬ HasNoSuperblob signature) × AtItem entry_offset (blob_count signature) (IsFirstBad signature) offset)
 
--- no blob is misplaced: the start of the signature, or the entry of a blob that is no sound code directory
+-- No blob is misplaced. The place is the start of the signature, or the entry of a blob that is not a sound code
+-- directory.
 abbrev pub IsDirectoryPlace : ℕ → List ℕ → ℕ → Type 0
 IsDirectoryPlace start signature offset =
     AreGoodBlobs signature

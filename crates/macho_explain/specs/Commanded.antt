@@ -13,7 +13,7 @@ use Rattle.macho_image.specs.Command.{first_with_cmd}
 use Rattle.macho_explain.specs.Explain.{all_loads, all_segment_loads, long_at, word_at, IsUncounted}
 use Rattle.macho_explain.specs.declared.walk.WalkEnd.{WalkEnd}
 
--- one of these commands begins before the place, and has P
+-- a command of the list begins before the place, and has P
 abbrev pub HasEarlier : List ℕ → (ℕ → Type 0) → ℕ → Type 0
 HasEarlier commands P place =
     (k : ℕ) × (earlier : ℕ) × (slice_get commands k ≡ Some earlier) × (earlier < place) × P earlier

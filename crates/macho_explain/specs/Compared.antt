@@ -59,15 +59,15 @@ use Rattle.macho_explain.specs.Wholes.{named_table, Opens, InWhole, InTable}
 use Rattle.macho_rows.specs.Segments.{last_address}
 use Rattle.macho_explain.specs.declared.conflict.Conflict.{Conflict}
 
--- The addresses of the section are not those of its segment: it begins before, or ends past them.
+-- Not all addresses of the section are in its segment: the section begins before the segment, or ends past it.
 abbrev pub ShowsOutsideMemory : List ℕ → ℕ → ℕ → ℕ → ℕ → Type 0
 ShowsOutsideMemory image segment section value limit =
     ((value ≡ section_address image section) × (limit ≡ vmaddr image segment) × (value < limit))
     ⊎ ((value ≡ last_address (section_address image section) (section_size image section))
     × (limit ≡ last_address (vmaddr image segment) (vmsize image segment)))
 
--- Where the bytes of the section begin, and where by its segment; or where they end, and those of the
--- segment, or the image.
+-- Where the bytes of the section begin, and where they should begin by its segment; or where they end, and where the
+-- bytes of the segment, or the image, end.
 abbrev pub ShowsMisplaced : List ℕ → ℕ → ℕ → ℕ → ℕ → Type 0
 ShowsMisplaced image segment section value limit =
     let end = section_offset image section + section_size image section in
@@ -89,7 +89,7 @@ abbrev pub Binds : List ℕ → ℕ → ℕ → Type 0
 Binds image place ordinal =
     (format : PointerFormat) × ((pointer_of format (long_at image place)).import ≡ Some ordinal)
 
--- the number at an offset of a table of function starts is that of a function at this address
+-- the number at an offset of a table of function starts tells of a function at this address
 abbrev pub IsStartShown : List ℕ → ℕ → ℕ → ℕ → Type 0
 IsStartShown table base offset address =
     (function : ℕ) × IsStartAt table base offset function × (address ≡ written function)
@@ -145,13 +145,13 @@ HasAddress image address =
     (segment : ℕ) × (vmaddr image segment ≤ address)
     × (address < vmaddr image segment + vmsize image segment)
 
--- an address, or that of its resolver where a segment has the first. Both count from the base.
+-- an address, or the address of its resolver where a segment has the first. Both count from the base.
 abbrev pub IsAddressShown : List ℕ → ℕ → ℕ → Option ℕ → ℕ → Type 0
 IsAddressShown image base address resolver value =
     (value ≡ written (base + address))
     ⊎ (HasAddress image (base + address) × IsSomeAnd resolver (λ r. value ≡ written (base + r)))
 
--- such an address of a symbol
+-- the address of a symbol, or of its resolver, counted from the base of the image
 abbrev pub LeadsTo : List ℕ → ℕ → Target → Type 0
 LeadsTo image value (target.Address address resolver) =
     IsSomeAnd (base_of image (commands_of image)) (λ base. IsAddressShown image base address resolver value)
@@ -171,7 +171,7 @@ IsObsoleteFound image place index field found =
 abbrev pub node_bounds : Node → Span × ℕ
 node_bounds node = (node.terminal, node.end)
 
--- what the relocation names, or its length, and that of a pointer
+-- what the relocation names; or its length, and the length of a pointer
 abbrev pub IsRelocationShown : Relocation → Conflict → Type 0
 IsRelocationShown relocation c =
     (c.value ≡ relocation.symbolnum) ⊎ ((c.value ≡ relocation.length) × (c.limit ≡ reloc.POINTER_LENGTH))
@@ -182,7 +182,7 @@ IsThreadShown image place c =
     ((c.value ≡ command_cmd image place) × IsBefore c)
     ⊎ ((c.value ≡ command_size image place) × (c.limit ≡ 0))
 
--- where the first 8 bytes of a command end, or all; or its size, which is none of a command
+-- where the first 8 bytes of a command end, or all its bytes; or its size, which no command can have
 abbrev pub IsWalkShown : List ℕ → ℕ → ℕ → ℕ → Type 0
 IsWalkShown image place value limit =
     ((limit ≡ 32 + word_at image 20)
@@ -207,7 +207,7 @@ IsArchOf cputype number = number / 2 ^ 32 ≡ cputype
 abbrev pub IsFileEnd : List ℕ → ℕ → Type 0
 IsFileEnd image end = (segment : ℕ) × (end ≡ written (fileoff image segment + filesize image segment))
 
--- no segment can be the home, or where one ends that is none, or both parts share bytes
+-- no segment can be the home; or where a segment ends that is not the home; or both parts share bytes
 abbrev pub IsHomelessShown : List ℕ → Conflict → Type 0
 IsHomelessShown image c = (c.limit ≡ 0) ⊎ IsFileEnd image c.limit ⊎ Share c
 
@@ -244,7 +244,7 @@ IsTablePast image place fields =
     (0 < size_shown image place fields)
     × (length image < start_shown image place fields + size_shown image place fields)
 
--- such a table of a command with this cmd
+-- a table that ends past the image, of a command with this cmd
 abbrev pub HasTablePast : List ℕ → ℕ → ℕ → Type 0
 HasTablePast image place cmd =
     Any (IsTablePast image place) (option_map_or table_fields (structure_of cmd) [])
@@ -256,7 +256,7 @@ span_shown image place fields = record {
   len = written (size_shown image place fields);
 }
 
--- loaders look for such a table of a command with this cmd: of LC_DYSYMTAB for the indirect entries alone
+-- loaders look for this table of a command with this cmd: of LC_DYSYMTAB for the indirect entries alone
 abbrev pub IsLookedFor : ℕ → TableFields → Type 0
 IsLookedFor cmd fields = (cmd ≢ loader.LC_DYSYMTAB) ⊎ (fields.place ≡ indirect_table.place)
 
@@ -265,12 +265,12 @@ abbrev pub IsLostTable : List ℕ → ℕ → ℕ → TableFields → Type 0
 IsLostTable image place cmd fields =
     IsLookedFor cmd fields × LacksHome image (span_shown image place fields)
 
--- a command with this cmd has such a table
+-- a command with this cmd has a table without a home
 abbrev pub HasLostTable : List ℕ → ℕ → ℕ → Type 0
 HasLostTable image place cmd =
     Any (IsLostTable image place cmd) (option_map_or table_fields (structure_of cmd) [])
 
--- What a rule is about: of the rules for which it is promised that this is explained
+-- The subject of a rule, for the rules whose explanation promises it
 
 abbrev pub HasHeader : List ℕ → ℕ → Type 0
 HasHeader image place = place < loader.MACH_HEADER_64_SIZE
@@ -310,7 +310,7 @@ HasChainHeader image place =
     × IsSomeAnd (named_table image loader.LC_DYLD_CHAINED_FIXUPS) (λ table.
     ((table.len ≡ 0) × HasCommand image place) ⊎ ((0 < table.len) × (place ≡ table.start)))
 
--- the number at an offset of a table of function starts is that of a function
+-- the number at an offset of a table of function starts tells of a function
 abbrev pub HasFunction : List ℕ → List ℕ → ℕ → Type 0
 HasFunction image table offset =
     IsSomeAnd (base_of image (commands_of image)) (λ base. (function : ℕ) × IsStartAt table base offset function)

@@ -16,7 +16,7 @@ SharesBefore image k span =
 abbrev pub IsConflicting : List ℕ → ℕ → Element → Type 0
 IsConflicting image k element = SharesBefore image k element.span ⊎ EndsPast image element
 
--- the structure at the place describes such an element
+-- the structure at the place describes a conflicting element
 abbrev pub HasConflicting : List ℕ → ℕ → Type 0
 HasConflicting image place =
     (k : ℕ) × (element : Element) × (slice_get (elements_of image) k ≡ Some element)
@@ -26,6 +26,6 @@ HasConflicting image place =
 abbrev pub AreFew : List ℕ → Type 0
 AreFew image = length (elements_of image) < 2 ^ 64
 
--- the image has so few elements that they can be counted, and such a one
+-- the image has so few elements that they can be counted, and a conflicting one
 abbrev pub HasOverlap : List ℕ → ℕ → Type 0
 HasOverlap image place = Opens image × AreFew image × HasConflicting image place

@@ -22,12 +22,12 @@ abbrev pub IsForeignSlice : List ℕ → FileSlice → Type 0
 IsForeignSlice file slice =
     (slice.start + slice.size ≤ length file) × IsForeign (slice_bytes file slice)
 
--- the slice of an entry is such a slice, and begins at the place
+-- the slice of an entry begins at the place, with the magic number of no image
 abbrev pub IsForeignAt : List ℕ → ℕ → ℕ → Type 0
 IsForeignAt file k place =
     ((entry_slice file k).start ≡ place) × IsForeignSlice file (entry_slice file k)
 
--- such a slice begins at the place
+-- a slice begins at the place, with the magic number of no image
 abbrev pub HasForeign : List ℕ → ℕ → Type 0
 HasForeign file place =
     HasTable file × ((k : ℕ) × (k < entry_count file) × IsForeignAt file k place)

@@ -56,7 +56,7 @@ platform_shown image command =
 abbrev pub image_of : List ℕ → FileSlice → List ℕ
 image_of file slice = part_or_none slice.start slice.size file
 
--- the load commands of any bytes, as many as can be walked to: those of kesvuot_read_commands
+-- the load commands of any bytes, as many as can be walked to, as kesvuot_read_commands gives them
 abbrev pub all_loads : List ℕ → List ℕ
 all_loads image = wanted_left wanted.All image first_cursor
 
@@ -64,7 +64,7 @@ all_loads image = wanted_left wanted.All image first_cursor
 abbrev pub all_segment_loads : List ℕ → List ℕ
 all_segment_loads image = wanted_left wanted.Segments image first_cursor
 
--- the command is one of these
+-- the command is a segment of the image
 abbrev pub IsSegment : List ℕ → ℕ → Type 0
 IsSegment image segment = (k : ℕ) × (slice_get (all_segment_loads image) k ≡ Some segment)
 

@@ -31,7 +31,7 @@ IsImageOf file place index image at =
 abbrev pub image_in : Sliced → List ℕ
 image_in sliced = bytes_of sliced.held.bytes
 
--- The indices are those of what has the place. Of a walk over the commands that breaks off, it is the index
+-- The indices name the parts that have the place. If the walk over the commands breaks off there, it is the index
 -- that a command would have there.
 pub record IsSpot (sliced : Sliced) (spot : Spot) : Type 0 where
   pub slice : spot.slice ≡ Some sliced.index
@@ -92,7 +92,7 @@ ShowsAs (OfImage S P) r file place e =
     × ((byte : ℕ) → IsByteOf r place byte → IsFirstWith file byte image.index)
     × IsSpot image e.at × P (image_in image) image.place e.conflict
 
--- What explains that a rule is broken at a place of the file.
+-- The explanation says why the rule is broken at a place of the file.
 abbrev pub IsExplained : Rule → List ℕ → ℕ → Explanation → Type 0
 IsExplained rule file place e =
     HasPlace (length file) place e.at.part × ShowsAs (shown rule) rule file place e
@@ -126,7 +126,7 @@ pub record IsNodeHere (sliced : Sliced) (node : NodeHere) : Type 0 where
   pub bounds : node.bounds ≡ option_map node_bounds (node_at (bytes_of node.trie) node.offset)
   pub inside : IfSome node.bounds (λ bounds. end_of bounds.0 ≤ length (bytes_of node.trie))
 
--- the place is the start of a signature, or that of an entry
+-- the place is the start of a signature, or the start of an entry
 abbrev pub IsWithin : Sliced → ℕ → Within → Type 0
 IsWithin sliced start (within.Start at) = IsSpot sliced at × (sliced.place ≡ start)
 IsWithin sliced start (within.Entry at k) = IsSpot sliced at × (sliced.place ≡ start + entry_offset k)

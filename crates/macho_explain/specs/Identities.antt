@@ -44,7 +44,7 @@ IsEarlierShown signature k second =
     MatchOption second (AreGoodBlobs signature → ¬ RepeatsSlot signature k)
     (λ part. IsSomeAnd part.index (λ j. (j < k) × HaveSameSlot signature j k))
 
--- the slot of the entry, the magic number of its blob, and such an earlier blob
+-- the slot of the entry, the magic number of its blob, and the blob of an earlier entry in the slot
 abbrev pub IsSlotShown : List ℕ → ℕ → Conflict → Type 0
 IsSlotShown image place c =
     ShowsEntry image place (λ signature k. (c.value ≡ (blob_at signature k).slot) × (c.limit ≡ magic_at signature k)

@@ -20,7 +20,7 @@ part_of kind index start size described = record {
 abbrev pub place_in_file : ℕ → ℕ → ℕ
 place_in_file begin place = min (begin + place) (2 ^ 64 - 1)
 
--- the part is that of a span of an image that begins there in the file
+-- the part is a span of an image that begins there in the file
 abbrev pub IsPartOf : ℕ → Span → Part → Type 0
 IsPartOf begin span part = (part.start ≡ place_in_file begin span.start) × (part.size ≡ span.len)
 

@@ -138,7 +138,7 @@ IsEncryptedShown image place c =
 
 -- Numbers
 
--- a later one of these commands has P
+-- a later command of the list has P
 abbrev pub HasLater : List ℕ → (ℕ → Type 0) → ℕ → Type 0
 HasLater commands P place =
     (k : ℕ) × (later : ℕ) × (slice_get commands k ≡ Some later) × (place < later) × P later

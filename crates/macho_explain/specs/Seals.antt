@@ -14,8 +14,8 @@ use Rattle.macho_explain.specs.declared.seal.Directory.{Directory}
 use Rattle.macho_explain.specs.declared.seal.Hashed.{Hashed}
 use Rattle.macho_explain.specs.declared.seal.Hashed.TheVariants as hashed
 
--- the place of the image is that of an entry of its signature in a slot of code directories, and an earlier entry is in
--- the same: the number
+-- At the place of the image is an entry of its signature, in a slot of code directories. An earlier entry is in the
+-- same slot, which has this number.
 abbrev pub IsRepeatShown : List ℕ → ℕ → ℕ → Type 0
 IsRepeatShown image place slot =
     (table : Span) × (signature : List ℕ) × IsSignatureOf image table signature
@@ -30,7 +30,7 @@ IsPageShown image blob directory place page count =
     × IsOtherPage image blob directory page
 
 -- a blob in the special slot with this number begins at the place, in a signature that begins at `start`, and the
--- directory has not its hash
+-- directory has another hash
 abbrev pub IsSpecialShown : ℕ → List ℕ → List ℕ → CodeDirectory → ℕ → ℕ → ℕ → Type 0
 IsSpecialShown start signature blob directory place slot count =
     (k : ℕ) × (place ≡ start + (blob_at signature k).offset) × (slot ≡ (blob_at signature k).slot)
@@ -41,7 +41,7 @@ IsOtherShown image start signature blob directory place number count =
     IsPageShown image blob directory place number count
     ⊎ IsSpecialShown start signature blob directory place number count
 
--- one of these, of a code directory of the signature
+-- a hash of a page or of a special slot, in a code directory of the signature
 abbrev pub IsHashShown : List ℕ → ℕ → List ℕ → ℕ → ℕ → ℕ → Type 0
 IsHashShown image start signature place number count =
     (k : ℕ) × (directory : CodeDirectory) × IsDirectoryAt signature k
@@ -74,8 +74,8 @@ HasDiffering Differs start signature =
     × ((k : ℕ) × (k < blob_count signature) × (directories_before signature k < 6)
     × DiffersAt Differs start signature k)
 
--- such a directory has another hash of a page that begins at the place, which is before the signature; or of a blob in a
--- special slot that begins there
+-- A code directory has another hash of a page that begins at the place, which is before the signature; or of a blob in
+-- a special slot that begins there.
 abbrev pub HasOtherHash : List ℕ → Span → List ℕ → ℕ → Type 0
 HasOtherHash image table signature place =
     ((place < table.start) × HasDiffering (λ blob directory. BadPage image blob directory place) table.start signature)

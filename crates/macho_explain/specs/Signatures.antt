@@ -41,7 +41,7 @@ IsBlobShown signature k value limit =
 
 -- A code directory
 
--- why a blob is none: its magic, its size, its version, its fields, or a scatter vector
+-- why a blob is not a code directory: its magic, its size, its version, its fields, or a scatter vector
 abbrev pub IsFormShown : List ℕ → ℕ → ℕ → Type 0
 IsFormShown blob value limit =
     Differ value limit (big_word blob 0) cs.CSMAGIC_CODEDIRECTORY

@@ -34,7 +34,7 @@ stream_table one image =
 abbrev pub IsOpcodeAt : Opcodes → List ℕ → ℕ → Type 0
 IsOpcodeAt of stream offset = ((steps : List Step) × AreSteps of stream steps offset) × (offset < length stream)
 
--- a known one is, and P holds of those before it and of it
+-- a known opcode is there, and P holds of the opcodes before it and of it
 abbrev pub AtStep : (List Step → Step → Type 0) → Opcodes → List ℕ → ℕ → Type 0
 AtStep P of stream offset =
     (before : List Step) × (next : Step) × (after : ℕ) × AreSteps of stream before offset
@@ -50,7 +50,7 @@ ordinal_of other = None
 abbrev pub IsFileSize : List ℕ → ℕ → Type 0
 IsFileSize image size = (segment : ℕ) × (size ≡ filesize image segment)
 
--- a rule can ask that of the opcode
+-- the opcode has what a rule asks of it
 abbrev pub Asks : Asked → Step → Type 0
 Asks asked.Library next = IsSome (ordinal_of next)
 Asks asked.Symbol next = Unit {0}

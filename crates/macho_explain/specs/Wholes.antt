@@ -28,7 +28,7 @@ pub record IsWhole (image : List ℕ) (found : Option Span) (table : Span) (read
   pub inside : end_of table ≤ length image
   pub bytes : read ≡ part table.start table.len image
 
--- The place is at an offset of such a table. P holds of where the table begins, of its bytes, and of the offset.
+-- The place is at an offset of a whole table. P holds of where the table begins, of its bytes, and of the offset.
 abbrev pub InWhole : List ℕ → Option Span → (ℕ → List ℕ → ℕ → Type 0) → ℕ → Type 0
 InWhole image named P place =
     (table : Span) × (bytes : List ℕ) × IsWhole image named table bytes

@@ -147,8 +147,8 @@ fn at_entry(sliced: &Sliced, chains: &Chains) -> Option<Explanation>
     )
 }
 
-// How many bytes the starts at an offset of the table have, by their first field, `size`. They are those of the
-// fields alone if the table ends before these do.
+// How many bytes the starts at an offset of the table have, by their first field, `size`. If the table ends before
+// their fields do, it is the size of the fields.
 fn starts_size(chains: Bytes, offset: u64) -> u64 {
     let fields = Span {
         start: offset,
@@ -274,8 +274,8 @@ impl Chains<'_> {
         short_item_at(start, size, header.imports_count, offset)
     }
 
-    // How many bytes the names up to and including that of the import with this index have, a zero byte for each
-    // included. It is `None` if those before it have more bytes than the table.
+    // How many bytes the names of the imports up to this index have, with a zero byte for each. It is `None` if the
+    // names before the last one have more bytes than the table.
     fn names_size(&self, index: u32) -> Option<u128>
         requires inside { ¬ ImportsEndPast (bytes_of self.now.bytes) self.now.header }
         requires listed { index < self.now.header.imports_count }

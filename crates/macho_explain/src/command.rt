@@ -174,7 +174,7 @@ fn first_thread(sliced: &Sliced) -> Option<Walked> {
     }
 }
 
-// The size of a command, and that of its structure, or 0 where it has no place in an image.
+// The size of a command, and the size of its structure, which is 0 if an image cannot have it.
 #[inline(never)]
 pub(crate) fn command_content(sliced: &Sliced) -> Option<Explanation>
     ensures { ExplainsIn Rule.CommandContent sliced.now result }

@@ -1,4 +1,4 @@
-//! Why a blob of a code signature is no sound code directory. (`cs_blobs.h`: `CS_CodeDirectory`)
+//! Why a blob of a code signature is not a sound code directory. (`cs_blobs.h`: `CS_CodeDirectory`)
 
 ghost use Rattle.std.specs.Prelude.{◌≡◌, ◌+◌, ◌≤◌, ◌<◌, ◌⊎◌, length, true, MatchOption};
 ghost use Rattle.macho_fields.specs.Bytes.{bytes_of};
@@ -25,7 +25,7 @@ use macho_signature::code_directory::{
 };
 use macho_signature::superblob::MAGIC;
 
-// Why the blob of an entry is no code directory, or an unsound one.
+// Why the blob of an entry is not a code directory, or not a sound one.
 pub(crate) fn bad_directory(sliced: &Sliced, signature: &Signature, index: u32) -> Option<Conflict>
     ensures { MatchOption result (¬ (AreGoodBlobs (bytes_of signature.now.bytes)
         × (index < blob_count (bytes_of signature.now.bytes))
@@ -45,7 +45,7 @@ pub(crate) fn bad_directory(sliced: &Sliced, signature: &Signature, index: u32) 
     }
 }
 
-// Why a blob is no code directory: its magic number, its size, its version, or its scatter vector.
+// Why a blob is not a code directory: its magic number, its size, its version, or its scatter vector.
 fn form_numbers(blob: Bytes) -> Option<Numbers>
     ensures { MatchOption result (8 ≤ length (bytes_of blob.entry) → is_directory (bytes_of blob.entry) ≡ true)
         (λ n. IsFormShown (bytes_of blob.entry) n.value n.limit) }

@@ -202,7 +202,7 @@ fn address_in(sliced: &Sliced, trie: Bytes, terminal: Span) -> Option<u64>
     }
 }
 
-// The address of an export, or that of its resolver if a segment has the first. Both count from the base.
+// The address of an export, or of its resolver if a segment has the first. Both count from the base.
 fn unmapped_address(sliced: &Sliced, base: u64, address: u64, resolver: Option<u64>) -> u64
     ensures { IsAddressShown (bytes_of sliced.now.held.bytes) base address resolver result }
 {

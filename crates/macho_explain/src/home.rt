@@ -34,7 +34,7 @@ pub(crate) fn table_home(sliced: &Sliced) -> Option<Explanation>
     Some(at.shows(conflict))
 }
 
-// Why the first table that has no home has none, of those that the command at the place bounds.
+// Why the first table without a home, among the tables that the command at the place bounds, has no home.
 fn first_homeless(sliced: &Sliced, image: &Image, cmd: u32) -> Option<Conflict>
     requires { image.now ≡ bytes_of sliced.now.held.bytes }
     ensures { MatchOption result (¬ HasLostTable (bytes_of sliced.now.held.bytes) sliced.now.place cmd)
@@ -54,7 +54,7 @@ fn first_homeless(sliced: &Sliced, image: &Image, cmd: u32) -> Option<Conflict>
     None
 }
 
-// Whether loaders look for the table of a command: of those of `LC_DYSYMTAB` for the indirect entries alone.
+// Whether loaders look for the table of a command. Of `LC_DYSYMTAB` they look for the indirect entries alone.
 fn is_looked_for(cmd: u32, fields: TableFields) -> bool
     ensures { IsTrue result ↔ IsLookedFor cmd fields }
 {

@@ -45,7 +45,7 @@ struct Lead {
     next: u64,
 }
 
-// The page start, or the pointer, at the place: it leads to a pointer that has not enough room.
+// The page start, or the pointer, at the place: it leads to a pointer without enough room.
 #[inline(never)]
 pub(crate) fn chain_slot(sliced: &Sliced) -> Option<Explanation>
     ensures { ExplainsIn Rule.ChainSlot sliced.now result }

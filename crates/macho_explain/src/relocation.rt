@@ -86,7 +86,7 @@ fn table_part(sliced: &Sliced, command: u64, index: u64, start: u64, count: u64)
     sliced.described(PartKind::Table, span, command, index_of(index))
 }
 
-// What the relocation names, and how many of these there are; or its length, and that of a pointer.
+// What the relocation names, and how many there are of the kind; or its length, and the length of a pointer.
 fn relocation_conflict(image: &Image, table: Part, relocation: Relocation) -> Conflict
     ensures { IsRelocationShown relocation result }
 {

@@ -66,7 +66,7 @@ pub(crate) fn signature_blob(sliced: &Sliced) -> Option<Explanation>
     }
 }
 
-// The first byte of a signature with no code directory in the slot 0; or an entry whose blob is no sound one.
+// The first byte of a signature without a code directory in the slot 0; or an entry whose blob is not a sound one.
 #[inline(never)]
 pub(crate) fn signature_directory(sliced: &Sliced) -> Option<Explanation>
     ensures { ExplainsIn Rule.SignatureDirectory sliced.now result }

@@ -81,7 +81,7 @@ fn slice_with(file: Bytes, place: u64) -> Option<(u32, Slice)>
 }
 
 impl<'a> Sliced<'a> {
-    // What is explained: a part of the image, outside all commands, which is no symbol.
+    // An explained part of the image that is outside all commands and not a symbol.
     pub(crate) fn at(&self, part: Part) -> Spot
         ensures { result ≡ spot_of (Some self.now.index) part }
     {
@@ -141,7 +141,7 @@ impl<'a> Sliced<'a> {
         }
     }
 
-    // Numbers that are no places of the file, which the structure at a place describes.
+    // Numbers that the structure at a place describes, and that are not places of the file.
     pub(crate) fn numbered(&self, kind: PartKind, span: Span, by: u64, index: Option<u32>) -> Part
         ensures { result ≡ part_of kind index span.start span.len
             (place_in_file self.now.held.place by) }

@@ -40,7 +40,7 @@ pub(crate) fn symbol_here<'a>(sliced: &Sliced<'a>) -> Option<(Spot, Image<'a>, S
     Some((at, image, symbol))
 }
 
-// The symbol at a place, and its index among those of the image.
+// The symbol at a place, and its index among the symbols of the image.
 pub(crate) fn symbol_with(image: &Image, place: u64) -> Option<(Symbol, u64)>
     ensures { MatchOption result ((k : ℕ) → ¬ IsSymbolAt image.now k place)
         (λ found. (found.0.place ≡ place) × (slice_get (map (symbol_at image.now)
