@@ -1,11 +1,10 @@
 -- Claims agree where no symbol is from another library than its name is looked up in.
-use Rattle.std.proofs.Common.{◌≡◌, ◌∙◌, ℕ, zero, suc, ◌+◌, ◌-◌, ◌≤◌, ◌<◌, List, [], ◌∷◌, ◌++◌, length, get_or, map, Some, Contains, refl, sym, ap, ap₂, subst, arith, add-zero, inl, inr}
+use Rattle.std.proofs.Common.{◌≡◌, ◌∙◌, ℕ, zero, suc, ◌+◌, ◌-◌, ◌≤◌, ◌<◌, List, [], ◌∷◌, length, get_or, map, Some, Contains, refl, sym, ap, ap₂, subst, arith, add-zero, inl, inr}
 use Rattle.std.specs.Prelude.{nat_lt, ◌==◌, if◌then◌else◌}
 use Rattle.std.specs.List.{AllAdjacentBelow}
 use Rattle.std.specs.List.Sorted.{IsNonDecreasingBy, IsPermutation}
 use Rattle.std.proofs.lemmas.Bool.{cases_Bool, cases_lt, eqb-true, ltb-true}
 use Rattle.std.proofs.lemmas.List.{get_or_default}
-use Rattle.std.proofs.lemmas.List.Elements.{Contains-append_left, Contains-push}
 use Rattle.std.proofs.lemmas.List.Sorted.{Contains-permutation}
 use Rattle.std.proofs.lemmas.Option.{same_Some, none-some}
 use Rattle.macho_fields.specs.declared.header.nlist.TheConstants.{DYNAMIC_LOOKUP_ORDINAL, EXECUTABLE_ORDINAL}
@@ -119,12 +118,6 @@ module _ (image : List ℕ) (symtab : ℕ) (all left rest : List Symbol) (x : Sy
 
 pub among_itself : (claims : List Claim) → AreAmong claims claims
 among_itself claims = λ claim has. has
-
-pub among_pushed : (items new : List Claim) (claim : Claim) → new ≡ items ++ claim ∷ [] → AreAmong items new
-among_pushed items new claim pushed other has = subst (λ (xs : List Claim). Contains xs other) (sym pushed) (Contains-append_left items (claim ∷ []) other has)
-
-pub has_pushed : (items new : List Claim) (claim other : Claim) → new ≡ items ++ claim ∷ [] → claim ≡ other → Contains new other
-has_pushed items new claim other pushed same = subst (λ (xs : List Claim). Contains xs other) (sym pushed) (subst (Contains (items ++ claim ∷ [])) same (Contains-push items claim))
 
 -- The rule
 

@@ -33,6 +33,13 @@ impl Claim {
         }
     }
 
+    /// Whether both say the same.
+    pub(crate) fn is_same(self, other: Claim) -> bool
+        ensures { IsTrue result ↔ (self ≡ other) }
+    {
+        self.hash == other.hash && self.ordinal == other.ordinal
+    }
+
     // Whether the other one has another hash, or the same ordinal.
     fn agrees_with(self, other: Claim) -> bool
         ensures { IsTrue result ↔ AgreesWith self other }

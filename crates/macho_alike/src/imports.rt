@@ -1,7 +1,7 @@
 //! The rule of the libraries that undefined symbols are from. (`mach-o/nlist.h`: `nlist_64`; `mach-o/loader.h`:
 //! `BIND_OPCODE_..`, `LC_DYLD_CHAINED_FIXUPS`)
 
-ghost use Rattle.std.specs.Prelude.{◌≡◌, ◌+◌, ◌≤◌, ◌<◌, ◌^◌, ◌↔◌, ℕ, List, length, IsTrue, IsSome, None, Some, IfOk, OnErr, IfSome, IsSomeAnd, MatchOption};
+ghost use Rattle.std.specs.Prelude.{◌≡◌, ◌+◌, ◌≤◌, ◌<◌, ◌^◌, ◌↔◌, ℕ, List, length, IsTrue, IsSome, None, Some, IfOk, OnErr, IfSome, IsSomeAnd, MatchOption, Contains};
 ghost use Rattle.macho_fields.specs.Bytes.{bytes_of};
 ghost use Rattle.macho_fields.specs.Field.{string_from};
 ghost use Rattle.macho_fields.specs.FirstPlace.{IsLeastPlace};
@@ -122,12 +122,26 @@ fn claim_symbols(image: &Image, claims: &mut Vec<Claim>) -> Result<(), AllocErro
     let Some(symtab) = image.symtab() else {
         return Ok(());
     };
+    let mut next = 0;
     for symbol in image.symbols() {
         if let Some(name) = imported_name(image.bytes(), symtab.stroff, symbol) {
-            claims.push(Claim::new(name, Some(library_ordinal(symbol))))?;
+            let claim = Claim::new(name, Some(library_ordinal(symbol)));
+            next = claim_next(claims, next, claim)?;
         }
     }
     Ok(())
+}
+
+// Adds the claim, unless it is the next one: symbols and look-ups may have the same order. It gives the index of the next one.
+fn claim_next(claims: &mut Vec<Claim>, next: usize, claim: Claim) -> Result<usize, AllocError>
+    ensures kept { IfOk result (λ _. AreAmong claims.old.items claims.new.items) }
+    ensures claimed { IfOk result (λ _. Contains claims.new.items claim) }
+{
+    if next < claims.len() && claims[next].is_same(claim) {
+        return Ok(next + 1);
+    }
+    claims.push(claim)?;
+    Ok(next)
 }
 
 // The place of the first symbol whose name is known to be looked up in another library than the symbol says.

@@ -1,4 +1,4 @@
-use Rattle.std.proofs.Common.{◌≡◌, ◌∙◌, ap}
+use Rattle.std.proofs.Common.{◌≡◌, ◌∙◌, Contains, ap, subst}
 use Rattle.std.proofs.lemmas.Bool.{false≢true}
 use Rattle.macho_fields.specs.Symbol.{stroff}
 use Rattle.macho_image.specs.Symbol.{symbol_at}
@@ -8,7 +8,7 @@ use Rattle.macho_rules.proofs.SymbolItems.{symbols_search, symtab_first, symtab_
 use Rattle.macho_symbols.specs.Nlist.{library_ordinal}
 use Rattle.macho_alike.specs.Claims.{claim_at, IsUnclaimed}
 use Rattle.macho_alike.specs.Definitions.{name_of}
-use Rattle.macho_alike.proofs.AgreedClaims.{same_claim, unnamed_next, claimed_next, among_itself, among_pushed, has_pushed}
+use Rattle.macho_alike.proofs.AgreedClaims.{same_claim, unnamed_next, claimed_next, among_itself}
 use Rattle.macho_alike.proofs.SymbolWalks.{symbols_break, nothing_at}
 use Rattle.macho_alike.proofs.imports.claim_symbols.Goals as goal
 
@@ -25,20 +25,20 @@ loop-symbol-init c = (
   among_itself c.args.claims.now.items,
 )
 
-pub loop-symbol-preserved-in-Continue-1 : goal.loop-symbol-preserved-in-Continue-1
-loop-symbol-preserved-in-Continue-1 c =
+pub loop-symbol-preserved-in-Some-imported_name : goal.loop-symbol-preserved-in-Some-imported_name
+loop-symbol-preserved-in-Some-imported_name c =
     let image = c.args.image.now in
     let symtab = c.in-Some.symtab in
     let symbol = c.in-Some-symbol.symbol in
     let begins : symtab.stroff ≡ stroff image symtab.place = ap (λ (t : Symtab). t.stroff) (symtab_read image symtab c.in-Some.ensures) in
     let name = (rw c.bytes.ensures.bytes at c.in-Some-imported_name.ensures.name) symtab.place begins in
-    let claim : c.new.result ≡ claim_at image symtab.place symbol = same_claim c.new.result c.in-Some-imported_name.name.now (name_of image symtab.place symbol) c.library_ordinal.result (library_ordinal symbol) c.new.ensures name c.library_ordinal.ensures in
-    let among = among_pushed c.loop-symbol.claims.items c.push.new.self.items c.new.result c.in_ok-push.ensures.items in (
+    let claim : c.new-claim.result ≡ claim_at image symtab.place symbol = same_claim c.new-claim.result c.in-Some-imported_name.name.now (name_of image symtab.place symbol) c.library_ordinal.result (library_ordinal symbol) c.new-claim.ensures name c.library_ordinal.ensures in
+    let claims = c.claim_next.new.claims.items in (
       tt,
       tt,
-      claimed_next image symtab.place _ _ _ symbol c.in-Some-symbol.ensures.steps c.loop-symbol.claims.items c.loop-symbol.invariant.2 c.push.new.self.items among
-          (has_pushed c.loop-symbol.claims.items c.push.new.self.items c.new.result (claim_at image symtab.place symbol) c.in_ok-push.ensures.items claim),
-      λ other has. among other (c.loop-symbol.invariant.3 other has),
+      claimed_next image symtab.place _ _ _ symbol c.in-Some-symbol.ensures.steps c.loop-symbol.claims.items c.loop-symbol.invariant.2 claims c.in_ok-next.ensures.kept
+          (subst (Contains claims) claim c.in_ok-next.ensures.claimed),
+      λ other has. c.in_ok-next.ensures.kept other (c.loop-symbol.invariant.3 other has),
     )
 
 pub loop-symbol-preserved : goal.loop-symbol-preserved
