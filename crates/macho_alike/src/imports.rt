@@ -132,7 +132,8 @@ fn claim_symbols(image: &Image, claims: &mut Vec<Claim>) -> Result<(), AllocErro
     Ok(())
 }
 
-// Adds the claim, unless it is the next one: symbols and look-ups may have the same order. It gives the index of the next one.
+// Adds the claim, unless it is the next one, since symbols and look-ups may have the same order. Returns the index of the
+// claim that is next then.
 fn claim_next(claims: &mut Vec<Claim>, next: usize, claim: Claim) -> Result<usize, AllocError>
     ensures kept { IfOk result (λ _. AreAmong claims.old.items claims.new.items) }
     ensures claimed { IfOk result (λ _. Contains claims.new.items claim) }
