@@ -16,6 +16,7 @@ from functools import partial
 from posixpath import normpath
 from typing import Callable, DefaultDict, Iterator, NamedTuple, Optional, Tuple, Union
 
+from ._paths import SEPARATOR
 from ._reading import (
     JUDGED_MAGICS, LIMIT, MACH_O_MAGICS, PIECE_SIZE, Stamp, Stamps, Unread, read_given, read_head, stamp_of, too_long)
 from ._reading import Contents as FileContents
@@ -34,8 +35,6 @@ HEAD_SIZE = BLOCK_SIZE
 ZIP, TAR = "zip", "tar"
 COMPRESSED = ((re.compile(rb"\x1f\x8b\x08"), GZIP), (re.compile(rb"\xfd7zXZ\0"), XZ),
               (re.compile(rb"BZh[1-9](?:1AY&SY|\x17rE8P\x90)"), BZIP2))
-# Between an archive and its member.
-SEPARATOR = "!"
 FAULTS = (Unread, OSError, MemoryError)
 NO_STAMP = Stamp(0, 0, 0, 0)
 
@@ -68,11 +67,11 @@ class Member(NamedTuple):
 
 
 class Wanted(NamedTuple):
-    """Which members the user wants: by the path and the name of each. And whether all their bytes are wanted, also
-    where the first ones decide."""
+    """Which members the user wants: by the path of each, and of the folders in the archive that it is in. And whether
+    all their bytes are wanted, also where the first ones decide."""
 
-    is_left_out: Callable[[str, str], bool]
-    is_asked_for: Callable[[str, str], bool]
+    is_left_out: Callable[[str], bool]
+    is_asked_for: Callable[[str], bool]
     has_all_bytes: bool = False
 
 
@@ -208,21 +207,47 @@ class Entry(NamedTuple):
     packed: Optional[Packed] = None
 
 
-class _Names:
-    """The names of members, of each no more than a hash."""
+class _Hashes:
+    """Names, of each no more than a hash."""
 
     BUCKETS = 4096
 
     def __init__(self) -> None:
         self.buckets: DefaultDict[int, "array[int]"] = defaultdict(partial(array, "Q"))
 
-    def is_repeated(self, name: str, is_judged: bool) -> bool:
+    def _bucket(self, name: str) -> Tuple[int, "array[int]"]:
+        number = (hash(name) & (1 << 63) - 1) << 1
+        return number, self.buckets[number // 2 % self.BUCKETS]
+
+    def has(self, name: str, is_judged: bool) -> bool:
         """Whether a member before it has this name, and one of the two is judged."""
-        number = (hash(normpath(name)) & (1 << 63) - 1) << 1
-        bucket = self.buckets[number // 2 % self.BUCKETS]
-        found = number | 1 in bucket or (is_judged and number in bucket)
+        number, bucket = self._bucket(name)
+        return number | 1 in bucket or (is_judged and number in bucket)
+
+    def add(self, name: str, is_judged: bool) -> None:
+        number, bucket = self._bucket(name)
         bucket.append(number | is_judged)
-        return found
+
+
+class _Names:
+    """The names of the members of an archive, and in lower case those that have a capital letter."""
+
+    def __init__(self) -> None:
+        self.names, self.lowered = _Hashes(), _Hashes()
+
+    def add(self, name: str, is_judged: bool) -> str:
+        """Adds a name. Returns what is told if a member before it has this name, or one that is the same where cases do
+        not differ, and one of the two is judged."""
+        name = normpath(name)
+        lower = name.casefold()
+        is_repeated = self.names.has(name, is_judged)
+        is_alike = self.lowered.has(lower, is_judged) or (lower != name and self.names.has(lower, is_judged))
+        self.names.add(name, is_judged)
+        if lower != name:
+            self.lowered.add(lower, is_judged)
+        if is_repeated:
+            return "another member has its name"
+        return "the name of another member differs in case alone" if is_alike else ""
 
 
 class _Walk:
@@ -273,8 +298,7 @@ class _Walk:
 
     def _member(self, path: str, name: str, take: Callable[[], Optional[Entry]], depth: int,
                 names: _Names) -> Iterator[Member]:
-        last = name.rpartition("/")[2]
-        if self.wanted.is_left_out(path, last):
+        if self.wanted.is_left_out(path):
             return
         if leads_out(name):
             yield Member(path, fault=Unread("its name leads out of the archive"))
@@ -286,13 +310,14 @@ class _Walk:
             is_judged = is_image or container is not None
             if container:
                 yield from self._inner(container, path, depth)
-            elif self.wanted.is_asked_for(path, last):
+            elif self.wanted.is_asked_for(path):
                 # No name here has the contents, which can be large: their last owner is whoever judges them.
                 yield Member(path, self._contents(entry) if entry and is_image else None)
         except FAULTS as fault:
             yield Member(path, fault=fault)
-        if names.is_repeated(name, is_judged):
-            yield Member(path, fault=Unread("another member has its name"))
+        said = names.add(name, is_judged)
+        if said:
+            yield Member(path, fault=Unread(said))
 
     def _inner(self, container: Container, path: str, depth: int) -> Iterator[Member]:
         if depth == MOST_DEPTH and container.kind in (ZIP, TAR):
@@ -325,9 +350,9 @@ def _tar_entry(archive: Stream, member: TarMember) -> Optional[Entry]:
 def leads_out(name: str) -> bool:
     """Whether a name can lead out of the folder into which an archive is unpacked, also where a backslash is a
     slash."""
-    slashed = name.replace("\\", "/")
-    has_drive = slashed[:1].isalpha() and slashed[1:2] == ":"
-    return slashed.startswith("/") or has_drive or ".." in slashed.split("/")
+    has_drive = name[:1].isalpha() and name[1:2] == ":"
+    slashed = normpath(name.replace("\\", "/"))
+    return has_drive or slashed.startswith("/") or slashed.split("/")[0] == ".."
 
 
 def whole(stream: Stream) -> bytearray:

@@ -14,6 +14,7 @@ from ._archives import MOST_UNPACKED, Archive, Begun, Member, Wanted, archive_at
 from ._archives import Contents as ArchivedContents
 from ._files import File, Image, Refused, verify
 from ._kinds import is_told, other_kind
+from ._paths import SEPARATOR, last_name, matched
 from ._pool import map_in_processes
 from ._profiles import DEFAULT
 from ._reading import Contents, NotMachO, Stamp, read_found, read_given
@@ -28,8 +29,10 @@ NOT_BY_POLICY = "not by the policy"
 # What was found in a folder or an archive and says that it is of a kind that is not judged, such as an object file.
 OTHER_KIND = "other kind"
 STATUSES = {ACCEPTED: 0, SKIPPED: 0, OTHER_KIND: 0, REFUSED: 1, NOT_BY_POLICY: 1, NO_VERDICT: 2}
-# That of a command that Control-C has ended, in a shell.
-INTERRUPTED_STATUS = 130
+# What is said of a run that has ended early.
+NOT_ALL = "not all files were judged"
+# The parts of a path that name no file in a folder.
+NO_NAMES = frozenset(("", ".", ".."))
 # In place of a rule, for a file that is refused by choice: the library accepts it, and judges nothing in one of its
 # slices.
 UNSUPPORTED_SLICE = "unsupported-slice"
@@ -95,6 +98,10 @@ class Target(NamedTuple):
     is_found: bool = False
     outcome: Optional[Outcome] = None
     contents: Optional[ArchivedContents] = None
+
+
+class Stopped(Exception):
+    """Judging cannot go on."""
 
 
 class Known(Protocol):
@@ -169,11 +176,11 @@ def _scan(folder: str, choice: Choice) -> Names:
     names = Names([], [], [])
     with os.scandir(folder) as entries:
         for entry in entries:
-            if _is_left_out(choice, entry.path, entry.name):
+            if _is_left_out(choice, entry.path):
                 continue
             if entry.is_dir(follow_symlinks=False):
                 names.folders.append(entry.name)
-            elif _is_asked_for(choice, entry.path, entry.name) or (choice.opens_found and entry.is_file(
+            elif _is_asked_for(choice, entry.path) or (choice.opens_found and entry.is_file(
                     follow_symlinks=False)):
                 (names.files if entry.is_file(follow_symlinks=False) else names.others).append(entry.name)
     for some in names:
@@ -181,17 +188,34 @@ def _scan(folder: str, choice: Choice) -> Names:
     return names
 
 
-def _is_left_out(choice: Choice, path: str, name: str) -> bool:
-    return any(_matches(path, name, pattern) for pattern in choice.exclude)
+def _is_left_out(choice: Choice, path: str) -> bool:
+    return any(_matches(path, pattern) for pattern in choice.exclude)
 
 
-def _is_asked_for(choice: Choice, path: str, name: str) -> bool:
-    return not choice.include or any(_matches(path, name, pattern) for pattern in choice.include)
+def _is_left_out_in_archive(choice: Choice, path: str) -> bool:
+    """Whether a member is left out, or a folder in the archive that it is in."""
+    if not choice.exclude:
+        return False
+    start = path.rindex(SEPARATOR) + 1
+    folders = (path[:at] for at in range(start, len(path)) if path[at] == "/")
+    # No walk over a folder finds a dot.
+    return any(_is_left_out(choice, it) for it in (*folders, path) if last_name(it) not in NO_NAMES)
 
 
-def _matches(path: str, name: str, pattern: str) -> bool:
+def _is_asked_for(choice: Choice, path: str) -> bool:
+    return not choice.include or any(_matches(path, pattern) for pattern in choice.include)
+
+
+def _matches(path: str, pattern: str) -> bool:
     """A pattern with a slash must match the whole path, and any other the name."""
-    return fnmatchcase(path if "/" in pattern else name, pattern)
+    return fnmatchcase(matched(path) if "/" in pattern else last_name(path), pattern)
+
+
+def without_match(patterns: List[str], path: str) -> List[str]:
+    """The patterns that do not match a file, of which there soon are none."""
+    if not patterns:
+        return patterns
+    return [pattern for pattern in patterns if not _matches(path, pattern)]
 
 
 # Archives
@@ -199,7 +223,7 @@ def _matches(path: str, name: str, pattern: str) -> bool:
 
 def open_archives(targets: Iterator[Target], choice: Choice) -> Iterator[Target]:
     """The targets, with the members of each archive in its place."""
-    wanted = Wanted(partial(_is_left_out, choice), partial(_is_asked_for, choice), choice.identifies)
+    wanted = Wanted(partial(_is_left_out_in_archive, choice), partial(_is_asked_for, choice), choice.identifies)
     for target in targets:
         can_open = not target.outcome and (choice.opens_found or not target.is_found)
         allowance = Allowance(choice.most_unpacked)
@@ -209,7 +233,7 @@ def open_archives(targets: Iterator[Target], choice: Choice) -> Iterator[Target]
             yield from map(partial(_target_of, choice, target), found.members(wanted, allowance))
         elif isinstance(found, Begun):
             yield target._replace(contents=found)
-        elif not target.is_found or _is_asked_for(choice, target.path, os.path.basename(target.path)):
+        elif not target.is_found or _is_asked_for(choice, target.path):
             yield target
 
 
@@ -356,7 +380,7 @@ def is_input(target: Target) -> bool:
 
 class Summary:
     """How many files there are of each kind, how many each rule refuses, and how many do not meet each key of the
-    policy, if there is one."""
+    policy, if there is one. And why the run itself has failed, if it has."""
 
     def __init__(self, has_policy: bool = False) -> None:
         self.words: Counter[str] = Counter()
@@ -367,7 +391,10 @@ class Summary:
         self.known = 0
         self.size = 0
         self.worst = 0
-        self.is_interrupted = False
+        # Why the run has failed, the signal that has ended it, and whether it has judged all files.
+        self.fault = ""
+        self.signal = 0
+        self.is_partial = False
 
     def add(self, outcome: Outcome) -> None:
         self.words[outcome.word] += 1
@@ -379,6 +406,14 @@ class Summary:
         self.size += outcome.size
         self.worst = max(self.worst, outcome.status)
 
+    def end_early(self, why: str, number: int = 0) -> None:
+        """The run has ended before all files were judged, perhaps by a signal."""
+        self.fault, self.signal, self.is_partial = f"{why}: {NOT_ALL}", number, True
+
+    def fail(self, why: str) -> None:
+        """The run has failed, whatever the verdicts are."""
+        self.fault = why
+
     @property
     def files(self) -> int:
         return sum(self.words.values())
@@ -386,7 +421,9 @@ class Summary:
     @property
     def status(self) -> int:
         """That of the command, in a shell."""
-        return INTERRUPTED_STATUS if self.is_interrupted else self.worst
+        if self.signal:
+            return 128 + self.signal
+        return STATUSES[NO_VERDICT] if self.fault else self.worst
 
     def __str__(self) -> str:
         some = [f"{count} {what}" for count, what in ((self.other_kinds, "of another kind"), (self.known, "known"))
@@ -395,12 +432,13 @@ class Summary:
         policy = f"{self.words[NOT_BY_POLICY]} {NOT_BY_POLICY}, " if self.has_policy else ""
         others = f", {self.words[OTHER_KIND]} of another kind" if self.words[OTHER_KIND] else ""
         return (f"{self.words[ACCEPTED]} accepted, {policy}{self.words[REFUSED]} refused{notes}, "
-                f"{self.words[NO_VERDICT]} without verdict, {self.words[SKIPPED]} skipped{others}")
+                f"{self.words[NO_VERDICT]} without verdict, {self.words[SKIPPED]} skipped{others}"
+                f"{f'; {NOT_ALL}' if self.is_partial else ''}")
 
-    def object(self) -> Dict[str, int]:
-        interrupted = {"interrupted": True} if self.is_interrupted else {}
+    def object(self) -> Dict[str, Any]:
+        failed: Dict[str, Any] = {"interrupted": True} if self.signal else {"error": self.fault} if self.fault else {}
         policy = {"not_by_policy": self.words[NOT_BY_POLICY]} if self.has_policy else {}
         known = {"known": self.known} if self.known else {}
-        return {**interrupted, "accepted": self.words[ACCEPTED], **policy, "refused": self.words[REFUSED],
+        return {**failed, "accepted": self.words[ACCEPTED], **policy, "refused": self.words[REFUSED],
                 "other_kinds": self.other_kinds + self.words[OTHER_KIND], **known,
                 "no_verdict": self.words[NO_VERDICT], "skipped": self.words[SKIPPED], "status": self.status}

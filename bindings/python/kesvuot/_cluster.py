@@ -21,9 +21,9 @@ from typing import Any, Deque, Dict, Iterator, List, NamedTuple, Optional, Set, 
 
 from . import library_version
 from ._archives import Place
-from ._check import NO_VERDICT, Choice, Outcome, Target, is_input, judge, outcome_before, weight_of
+from ._check import NO_VERDICT, Choice, Outcome, Stopped, Target, is_input, judge, outcome_before, weight_of
 from ._output import say
-from ._pool import HEAVY
+from ._pool import HEAVY, UpToFault
 from ._reports import VERSION
 
 # A task has so many files, or so many bytes.
@@ -42,7 +42,7 @@ BEGUN, UNFIT = "begun", "unfit"
 KILLED = "two workers have ended while they judged it"
 
 
-class ClusterError(Exception):
+class ClusterError(Stopped):
     """The cluster cannot judge files, or not any more."""
 
 
@@ -108,7 +108,8 @@ class Batch:
 
 
 def judge_on_cluster(targets: Iterator[Target], choice: Choice, address: str, is_ordered: bool) -> Iterator[Outcome]:
-    """The outcomes of all files: in the order of the files, or as they come."""
+    """The outcomes of all files: in the order of the files, or as they come. Raises ClusterError at once if there is no
+    cluster that can judge."""
     try:
         from distributed import Client  # pylint: disable=import-outside-toplevel # an optional package
     except ImportError as error:
@@ -123,10 +124,13 @@ def judge_on_cluster(targets: Iterator[Target], choice: Choice, address: str, is
         client = Client(address, set_as_default=False)
     except (OSError, ValueError) as error:
         raise ClusterError(f"no scheduler at {address}: {error}") from error
+    cluster = _Cluster(client, choice, address)
     try:
-        yield from _Cluster(client, choice, address).judge_all(targets, is_ordered)
-    finally:
+        cluster.begin()
+    except ClusterError:
         client.close()
+        raise
+    return cluster.judge_all(targets, is_ordered)
 
 
 def _take_done(waiting: Deque[Batch], is_ordered: bool) -> List[Batch]:
@@ -205,11 +209,22 @@ class _Cluster:
         # Batches that were begun by a worker that has ended.
         self.begun: Deque[Batch] = deque()
 
-    def judge_all(self, targets: Iterator[Target], is_ordered: bool) -> Iterator[Outcome]:
+    def begin(self) -> None:
+        """Looks whether there is a worker."""
         self._ask()
         if not self.threads:
             raise self._error(f"there is no worker with {self.version}")
-        batches = _batches(targets, self.choice)
+
+    def judge_all(self, targets: Iterator[Target], is_ordered: bool) -> Iterator[Outcome]:
+        """Judges, and then leaves the cluster."""
+        try:
+            yield from self._judge_all(targets, is_ordered)
+        finally:
+            self.client.close()
+
+    def _judge_all(self, targets: Iterator[Target], is_ordered: bool) -> Iterator[Outcome]:
+        held = UpToFault(targets)
+        batches = _batches(iter(held), self.choice)
         waiting: Deque[Batch] = deque()
         is_over = False
         while waiting or not is_over:
@@ -226,6 +241,7 @@ class _Cluster:
                 self._receive()
             elif self.begun:
                 self._judge_alone(self.begun.popleft())
+        held.end()
 
     def _has_room(self, waiting: Deque[Batch]) -> bool:
         threads = sum(self.threads.values())

@@ -16,7 +16,8 @@ from ._layout import cdhashes_of, exports_of, libraries_of, signatures_of
 from ._names import (
     FILETYPES, LIBRARIES, command_name, count_text, plain, platform_name, protection_text, version_text)
 from ._output import GREEN, RED, Output, coloured, say
-from ._reports import check_object, file_object, reason_text, shown
+from ._paths import file_object, shown
+from ._reports import check_object, reason_text
 from ._rows import Command
 from ._show import signature_text
 from ._structures import LISTED, STRUCTURES, number_in, structure_of

@@ -19,7 +19,8 @@ from ._names import command_name
 from ._output import GREEN, RED, Output, coloured, say
 from ._parts import image_parts, slices_of
 from ._profiles import PROFILES, later
-from ._reports import PAGES, check_object, link, reason_text, rule_text, shown
+from ._paths import shown
+from ._reports import PAGES, check_object, link, reason_text, rule_text
 from ._rules import RULES
 from ._show import columns
 from ._stories import Told, told_of

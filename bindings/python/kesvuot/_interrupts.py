@@ -1,4 +1,4 @@
-"""What Control-C does to the command."""
+"""What Control-C, and other signals that end a command, do to it."""
 
 # `signal` takes a while to load, and so does `typing`. Until then Control-C would leave a traceback.
 import _signal
@@ -29,34 +29,36 @@ from typing import Any, Iterator, TypeVar
 Result = TypeVar("Result")
 
 
-class Interrupted(Exception):
-    """Control-C has come, and the report is finished."""
+# What ends a command that nobody waits for any more: Control-C, a time-out of CI, and a terminal that is closed.
+SIGNALS = (_signal.SIGINT, _signal.SIGTERM, _signal.SIGHUP)
 
 
 class Interrupts:
-    """Whether Control-C has come, in a run whose output should be whole then too. It is acted on between two results,
-    or while one is waited for: in this process not before a call of the library has ended."""
+    """Which signal has come, if one has, in a run whose output should be whole then too. It is acted on between two
+    results, or while one is waited for: in this process not before a call of the library has ended."""
 
     def __init__(self) -> None:
-        self.has_come = False
+        self.number = 0
         self._waits = False
 
     def watch(self) -> None:
-        """From now on Control-C is acted on, unless it is ignored."""
-        if _signal.getsignal(_signal.SIGINT) is _signal.SIG_DFL:
-            _signal.signal(_signal.SIGINT, self._come)
+        """From now on the signals are acted on, except those that are ignored."""
+        for number in SIGNALS:
+            if _signal.getsignal(number) is _signal.SIG_DFL:
+                _signal.signal(number, self._come)
 
-    def _come(self, *_: Any) -> None:
+    def _come(self, number: int, *_: Any) -> None:
         # What is written after it comes once.
-        _signal.signal(_signal.SIGINT, _signal.SIG_IGN)
-        self.has_come = True
+        for each in SIGNALS:
+            _signal.signal(each, _signal.SIG_IGN)
+        self.number = number
         if self._waits:
             raise KeyboardInterrupt
 
     def until(self, results: Iterator[Result]) -> Iterator[Result]:
-        """The results up to Control-C."""
+        """The results up to a signal."""
         try:
-            while not self.has_come:
+            while not self.number:
                 self._waits = True
                 result = next(results)
                 self._waits = False
@@ -67,8 +69,8 @@ class Interrupts:
 
 @contextmanager
 def held_interrupts() -> Iterator[None]:
-    """Control-C comes after what is done in it."""
-    before = _signal.pthread_sigmask(_signal.SIG_BLOCK, {_signal.SIGINT})
+    """The signals come after what is done in it."""
+    before = _signal.pthread_sigmask(_signal.SIG_BLOCK, SIGNALS)
     try:
         yield
     finally:
@@ -76,7 +78,8 @@ def held_interrupts() -> Iterator[None]:
 
 
 def forget_interrupts() -> None:
-    """Control-C ends a process that was started while interrupts were held, unless it is ignored."""
-    if _signal.getsignal(_signal.SIGINT) is not _signal.SIG_IGN:
-        _signal.signal(_signal.SIGINT, _signal.SIG_DFL)
-    _signal.pthread_sigmask(_signal.SIG_UNBLOCK, {_signal.SIGINT})
+    """The signals end a process that was started while they were held, except those that are ignored."""
+    for number in SIGNALS:
+        if _signal.getsignal(number) is not _signal.SIG_IGN:
+            _signal.signal(number, _signal.SIG_DFL)
+    _signal.pthread_sigmask(_signal.SIG_UNBLOCK, SIGNALS)

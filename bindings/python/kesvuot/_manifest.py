@@ -16,10 +16,10 @@ from typing import Any, Dict, Iterator, Optional, Tuple
 
 from . import library_version
 from ._check import (
-    ACCEPTED, NO_VERDICT, NOT_BY_POLICY, OTHER_KIND, REFUSED, Choice, Identity, Outcome, Unsupported)
-from ._output import WriteFailed
+    ACCEPTED, NO_VERDICT, NOT_BY_POLICY, OTHER_KIND, REFUSED, Choice, Identity, Outcome, Stopped, Unsupported)
+from ._paths import file_object, shown
 from ._reading import Stamp, stamp_of
-from ._reports import RULES_AND_CHOICES, file_object, shown
+from ._reports import RULES_AND_CHOICES
 
 # The form of a manifest. A field may be added to its lines without a new version.
 SCHEMA, MANIFEST_VERSION = "kesvuot-manifest", 1
@@ -28,8 +28,8 @@ SHA256 = re.compile("[0-9a-f]{64}")
 VERDICTS = {ACCEPTED: ACCEPTED, NOT_BY_POLICY: ACCEPTED, REFUSED: REFUSED, OTHER_KIND: REFUSED}
 
 
-class ManifestError(Exception):
-    """A manifest cannot be read, or says nothing about these verdicts."""
+class ManifestError(Stopped):
+    """A manifest cannot be written, or not be read, or says nothing about these verdicts."""
 
 
 def conditions(choice: Choice) -> Dict[str, Any]:
@@ -100,7 +100,7 @@ class Manifest:
         self.name = shown(path)
         self.path = os.path.realpath(path)
         if os.path.lexists(self.path) and not os.path.isfile(self.path):
-            raise WriteFailed(f"{self.name}: not a regular file")
+            raise ManifestError(f"{self.name}: not a regular file")
         self.part = f"{self.path}.{secrets.token_hex(4)}.part"
         try:
             self.stream = open(self.part, "x", encoding="ascii")  # pylint: disable=consider-using-with
@@ -136,8 +136,8 @@ class Manifest:
         except OSError as error:
             raise self._failed(error) from error
 
-    def _failed(self, error: OSError) -> WriteFailed:
-        return WriteFailed(f"{self.name}: {error.strerror}")
+    def _failed(self, error: OSError) -> ManifestError:
+        return ManifestError(f"{self.name}: {error.strerror}")
 
 
 # Reading

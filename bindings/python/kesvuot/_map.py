@@ -15,7 +15,8 @@ from ._names import size_text
 from ._output import Output, WriteFailed, say
 from ._parts import Part, parts_of
 from ._reading import Contents
-from ._reports import link, reason_text, rule_text, shown
+from ._paths import shown
+from ._reports import link, reason_text, rule_text
 from ._rules import RULES
 from ._stories import Told, told_of
 

@@ -8,10 +8,11 @@ from typing import Any, Dict, Iterator, List, Tuple
 from ._check import ACCEPTED, NO_VERDICT, Choice, Target, judge
 from ._files import File
 from ._output import Output, say
+from ._paths import printable, shown
 from ._policy import judge_key, policy_of
 from ._policy_facts import Facts
 from ._policy_keys import KEYS
-from ._reports import reason_text, shown
+from ._reports import reason_text
 
 # A list of TOML with longer lines has a line for each item.
 WIDTH = 100
@@ -76,7 +77,7 @@ def _toml_keys(names: List[str], met: Dict[str, Any], unmet: Dict[str, str]) -> 
         if name in met:
             yield f"{inner} = {_toml(met[name])}"
         elif name in unmet:
-            yield f"# {inner} = true   # this file has: {shown(unmet[name])}"
+            yield f"# {inner} = true   # this file has: {printable(unmet[name])}"
 
 
 def _toml(value: Any) -> str:

@@ -34,6 +34,25 @@ TASKS_EACH = 2
 WINDOW_EACH = 8
 
 
+class UpToFault:
+    """Items up to an exception of their iterator. It is raised after the results of the items before it."""
+
+    def __init__(self, items: Iterator[Item]) -> None:
+        self.items = items
+        self.fault: Optional[Exception] = None
+
+    def __iter__(self) -> Iterator[Item]:
+        try:
+            yield from self.items
+        except Exception as fault:  # pylint: disable=broad-except # whatever it is
+            self.fault = fault
+
+    def end(self) -> None:
+        """Raises the exception, if there was one."""
+        if self.fault:
+            raise self.fault
+
+
 class Task:
     """Some items, with their results once they are there."""
 
@@ -62,10 +81,13 @@ def map_in_processes(do: Callable[[Item], Result], items: Iterator[Item], jobs: 
                      is_here: Callable[[Item], bool], weigh: Callable[[Item], int]) -> Iterator[Result]:
     """The results of `do` for the items. `ended` makes the result of an item whose process has ended. An item that
     `is_here` is done in this process. `weigh` says how many bytes an item takes along."""
-    first = deque(islice(items, 2 if jobs > 1 else 0))
-    all_items = _popped(first, items)
+    held = UpToFault(items)
+    begun = iter(held)
+    first = deque(islice(begun, 2 if jobs > 1 else 0))
+    all_items = _popped(first, begun)
     if len(first) < 2:
         yield from map(do, all_items)
+        held.end()
         return
     pool = _Pool(do, jobs, ended)
     try:
@@ -73,6 +95,7 @@ def map_in_processes(do: Callable[[Item], Result], items: Iterator[Item], jobs: 
             yield from task.results or ()
     finally:
         pool.close()
+    held.end()
 
 
 def _popped(first: Deque[Item], others: Iterator[Item]) -> Iterator[Item]:

@@ -5,9 +5,9 @@ from __future__ import annotations
 
 import json
 import os
+import signal
 import tempfile
 from typing import TYPE_CHECKING, Any, Callable, Dict, Optional, Type
-from urllib.parse import quote
 from xml.sax.saxutils import escape, quoteattr
 
 from . import _policy_reports
@@ -17,7 +17,8 @@ from ._check import (
 from ._explanation import explain
 from ._files import Refused
 from ._library import INSTALLED
-from ._output import AS_BYTES, as_bytes
+from ._output import AS_BYTES
+from ._paths import file_object, located, shown, uri
 from ._reading import Contents
 from ._rules import RULES, Rule
 
@@ -26,14 +27,8 @@ if TYPE_CHECKING:
 
 Write = Callable[[str], Any]
 
-# What is said of a run that Control-C has ended.
-INTERRUPTED = "interrupted: not all files were judged"
-
 # The version of the package (VERSION).
 VERSION = "2.0.0"
-
-# How some letters of a path are written.
-ESCAPES = {"\\": r"\\", "\n": r"\n", "\r": r"\r", "\t": r"\t"}
 
 # The form of the objects of JSON. A field may be added without a new version.
 CHECK_VERSION = 1
@@ -50,27 +45,6 @@ RULES_AND_CHOICES: Dict[str, Rule] = {**RULES, UNSUPPORTED_SLICE: Rule(
     "code for a processor such as i386 or PowerPC beside that for the others.",
     "take the slice out, by lipo -remove, or do without the option.",
     "its first bytes:", ("od -A x -t x1 -j PLACE -N 4 FILE",))}
-
-
-def shown(path: str) -> str:
-    """A path on one line, which no other path has: a backslash has another before it, and what cannot be printed is
-    written as the numbers of its bytes."""
-    return "".join(ESCAPES.get(letter) or (letter if letter.isprintable() else as_bytes(letter)) for letter in path)
-
-
-def file_object(path: str) -> Dict[str, str]:
-    """A path, for JSON, whose texts have no half of a letter. Bytes that are not UTF-8 are written as numbers, and all
-    bytes are there too, in hexadecimal."""
-    try:
-        path.encode("utf-8")
-        return {"file": path}
-    except UnicodeEncodeError:
-        return {"file": shown(path), "name": shown(path), "name_bytes": os.fsencode(path).hex()}
-
-
-def located(path: str) -> str:
-    """A path for a tool that opens the file: as it is, if it can be written."""
-    return path if path.isprintable() else shown(path)
 
 
 def rule_text(rule: str) -> str:
@@ -159,7 +133,7 @@ class Report:
     has_baseline = False
     # What is asked of a refused file.
     of_refused: ExtraOfRefused = None
-    # Whether it is finished after Control-C too, so that a reader of it gets what it can read.
+    # Whether it is finished after a signal too, so that a reader of it gets what it can read.
     is_whole = True
 
     def __init__(self, write: Write, profile: str) -> None:
@@ -180,11 +154,15 @@ class Report:
 
 
 class JsonLines(Report):
-    """An object in each line."""
+    """An object in each line. A run that has failed has one more, with its counts."""
 
     def add(self, outcome: Outcome) -> None:
         if outcome.word != SKIPPED:
             self.write(json.dumps(check_object(outcome)) + "\n")
+
+    def end(self, summary: Summary) -> None:
+        if summary.fault:
+            self.write(json.dumps({"summary": summary.object()}) + "\n")
 
 
 class Json(Report):
@@ -204,14 +182,6 @@ class Json(Report):
 
     def end(self, summary: Summary) -> None:
         self.write(f'\n  ],\n  "summary": {json.dumps(summary.object())}\n}}\n')
-
-
-def uri(path: str) -> str:
-    """A path as a reference of a URI: from the folder of the run, if it is no absolute one."""
-    quoted = quote(path.encode("utf-8", "surrogateescape"), safe="/")
-    while quoted.startswith("./"):
-        quoted = quoted[2:].lstrip("/")
-    return f"file://{quoted}" if quoted.startswith("/") else quoted
 
 
 def extent(data: Contents, refused: Refused) -> int:
@@ -283,10 +253,11 @@ class Sarif(Report):
         self.faults.write(before + json.dumps(fault))
 
     def end(self, summary: Summary) -> None:
-        signals = '          "exitSignalName": "SIGINT",\n' if summary.is_interrupted else ""
-        is_done = summary.words[NO_VERDICT] == 0 and not summary.is_interrupted
-        if summary.is_interrupted:
-            self._notify({"level": "error", "message": {"text": INTERRUPTED}})
+        name = signal.Signals(summary.signal).name if summary.signal else ""
+        signals = f'          "exitSignalName": "{name}",\n' if name else ""
+        is_done = summary.words[NO_VERDICT] == 0 and not summary.fault
+        if summary.fault:
+            self._notify({"level": "error", "message": {"text": summary.fault}})
         self.write(f'\n      ],\n      "invocations": [\n        {{\n          "executionSuccessful": '
                    f'{json.dumps(is_done)},\n          "exitCode": {summary.status},\n{signals}'
                    '          "toolExecutionNotifications": [')
@@ -341,10 +312,11 @@ class Junit(Report):
     def end(self, summary: Summary) -> None:
         tests = sum(count for word, count in summary.words.items() if word != SKIPPED)
         errors, failures = summary.words[NO_VERDICT], summary.words[REFUSED] - summary.known
-        if summary.is_interrupted:
+        if summary.fault:
             tests, errors = tests + 1, errors + 1
+            kind = "interrupted" if summary.signal else "failed"
             self.cases.write(f'    <testcase classname="kesvuot.{self.profile}" name="all files">\n'
-                             f'      <error type="interrupted" message="{INTERRUPTED}"/>\n    </testcase>\n')
+                             f'      <error type="{kind}" message={quoteattr(summary.fault)}/>\n    </testcase>\n')
         counts = f'tests="{tests}" failures="{failures}" errors="{errors}"'
         whole = (f'tests="{tests + self.suite.tests}" failures="{failures + self.suite.failures}" '
                  f'errors="{errors}"')
@@ -365,8 +337,8 @@ class Junit(Report):
 
 
 class GitHub(Report):
-    """A command of GitHub's workflows for each file that is not accepted and for each key of a policy that a file does
-    not meet, and the summary."""
+    """A command of GitHub's workflows for each file that is not accepted, for each key of a policy that a file does not
+    meet, and for a run that has failed; and the summary."""
 
     def add(self, outcome: Outcome) -> None:
         if outcome.word == REFUSED and not outcome.is_known:
@@ -386,6 +358,8 @@ class GitHub(Report):
         self.write(f"::error file={value(located(outcome.path))},title={value(f'kesvuot: {title}')}::{message}\n")
 
     def end(self, summary: Summary) -> None:
+        if summary.fault:
+            self.write(f"::error title=kesvuot::{escaped(summary.fault)}\n")
         self.write(f"{summary}\n")
 
 

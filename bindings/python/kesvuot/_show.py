@@ -16,7 +16,8 @@ from ._layout import (
 from ._names import (
     FILETYPES, LIBRARIES, count_text, plain, platform_name, protection_text, signature_flags, size_text, version_text)
 from ._output import Output, say
-from ._reports import check_object, reason_text, shown
+from ._paths import shown
+from ._reports import check_object, reason_text
 from .constants import LC_LOAD_DYLINKER, LC_RPATH
 
 # The form of the object of JSON (docs/layout.schema.json). A field may be added without a new version.

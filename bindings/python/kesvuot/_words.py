@@ -7,22 +7,23 @@ import json
 import os
 import signal
 import sys
-from typing import TYPE_CHECKING, Any, Callable, Counter, Dict, List, Optional
+from typing import TYPE_CHECKING, Any, Callable, Counter, Dict, Iterator, List, NamedTuple, Optional
 
 from . import _check, _policy_reports, library_version
 from ._archives import MOST_UNPACKED
-from ._check import ACCEPTED, NO_VERDICT, NOT_BY_POLICY, OTHER_KIND, REFUSED, Choice, Outcome, Summary, judge_all
+from ._check import (
+    ACCEPTED, NO_VERDICT, NOT_BY_POLICY, OTHER_KIND, REFUSED, Choice, Outcome, Stopped, Summary, judge_all, without_match)
 from ._diff import diff
 from ._explain import explain_file
 from ._files import File
-from ._interrupts import Interrupted, Interrupts, end_at_interrupts
+from ._interrupts import Interrupts, end_at_interrupts
 from ._layout import slice_objects
 from ._map import STANDARD_OUTPUT, map_file
 from ._output import GREEN, RED, YELLOW, Output, coloured, end_by, open_errors, say, write_failed
 from ._profiles import DEFAULT, PROFILES
 from ._progress import Progress, is_terminal
-from ._reports import (
-    INTERRUPTED, PAGES, REPORTS, RULES_AND_CHOICES, VERSION, Report, Write, file_object, reason_text, shown)
+from ._paths import file_object, printable, shown
+from ._reports import PAGES, REPORTS, RULES_AND_CHOICES, VERSION, Report, Write, reason_text
 from ._show import columns, show
 from ._stores import add_words, check_words, for_store, manifest_of, outcomes_of
 
@@ -37,8 +38,8 @@ statuses:
   0    all files are accepted, or their refusals are known; of diff, the layouts are the same
   1    a file is refused or not by the policy, and none is without a verdict; of diff, the layouts differ
   2    a file has no verdict, for example because it cannot be read; of diff, a file is not accepted; the words are
-       wrong; or nothing could be written
-  130  Control-C
+       wrong; nothing could be written; or not all files were judged
+  130  Control-C; 143 is SIGTERM, and 129 SIGHUP
   141  nobody reads the output any more, as after head
 """
 # Of each command.
@@ -204,12 +205,22 @@ def check(words: argparse.Namespace) -> int:
         refuses_unsupported=words.no_unsupported_slices, maps=words.mmap, opens_found=words.archives,
         most_unpacked=words.max_unpacked, of_refused=report.of_refused, policy=policy), words)
     report.has_baseline = choice.known is not None
+    outcomes = outcomes_of(words, choice)
+    progress = Progress(_count(words, choice), not words.no_progress)
+    if is_terminal(sys.stdout):
+        output.clear = progress.clear
+    interrupts = Interrupts()
+    # What is written beside an old manifest does not stay there.
+    if report.is_whole or words.manifest:
+        interrupts.watch()
     try:
         with manifest_of(words, choice) as keep:
-            return _report_all(words, choice, output, report, keep)
-    except Interrupted:
-        say(INTERRUPTED)
-        end_by(signal.SIGINT)
+            return _report_all(interrupts, outcomes, choice, Listeners(report, output, progress, keep))
+    except Failed as failed:
+        say(failed.summary.fault)
+        if failed.summary.signal:
+            end_by(failed.summary.signal)
+        return failed.summary.status
     finally:
         report.close()
 
@@ -224,34 +235,60 @@ def _read_policy(words: argparse.Namespace) -> Optional[Policy]:
     try:
         return read_policy(words.policy)
     except Malformed as error:
-        parser.error(shown(str(error)))
+        parser.error(printable(str(error)))
 
 
-def _report_all(words: argparse.Namespace, choice: Choice, output: Output, report: Report,
-                keep: Callable[[Outcome], None]) -> int:
-    progress = Progress(_count(words, choice), not words.no_progress)
-    if is_terminal(sys.stdout):
-        output.clear = progress.clear
-    summary, interrupts = Summary(report.policy is not None), Interrupts()
-    # What is written beside an old manifest does not stay there.
-    if report.is_whole or words.manifest:
-        interrupts.watch()
-    outcomes = outcomes_of(words, choice)
-    report.begin()
-    for outcome in interrupts.until(outcomes):
-        summary.add(outcome)
-        keep(outcome)
-        if outcome.word == NO_VERDICT and isinstance(report, Text):
-            progress.clear()
+class Failed(Exception):
+    """The run has failed, and the report that says so is finished."""
+
+    def __init__(self, summary: Summary) -> None:
+        super().__init__(summary)
+        self.summary = summary
+
+
+class Listeners(NamedTuple):
+    """To whom an outcome goes: the report, with its output, the bar, and the manifest."""
+
+    report: Report
+    output: Output
+    progress: Progress
+    keep: Callable[[Outcome], None]
+
+    def add(self, outcome: Outcome) -> None:
+        """Tells of a file."""
+        if outcome.word == NO_VERDICT and isinstance(self.report, Text):
+            self.progress.clear()
             say(f"{shown(outcome.path)}: {coloured(outcome.reason, YELLOW, sys.stderr)}")
-        report.add(outcome)
-        progress.show(summary.files, summary.size)
-    summary.is_interrupted = interrupts.has_come
-    progress.clear()
-    report.end(summary)
-    output.flush()
-    if interrupts.has_come:
-        raise Interrupted
+        self.report.add(outcome)
+        self.keep(outcome)
+
+    def end(self, summary: Summary) -> None:
+        """Tells of the run."""
+        self.progress.clear()
+        self.report.end(summary)
+        self.output.flush()
+
+
+def _report_all(interrupts: Interrupts, outcomes: Iterator[Outcome], choice: Choice, told: Listeners) -> int:
+    summary, unmatched = Summary(told.report.policy is not None), list(choice.include)
+    told.report.begin()
+    try:
+        for outcome in interrupts.until(outcomes):
+            summary.add(outcome)
+            unmatched = without_match(unmatched, outcome.path)
+            told.add(outcome)
+            told.progress.show(summary.files, summary.size)
+    except Stopped as stopped:
+        summary.end_early(str(stopped))
+    number = interrupts.number
+    if number:
+        name = signal.Signals(number).name
+        summary.end_early("interrupted" if number == signal.SIGINT else f"ended by {name}", number)
+    elif unmatched and not summary.fault:
+        summary.fail(f"--include {printable(', '.join(unmatched))}: no file has such a name")
+    told.end(summary)
+    if summary.fault:
+        raise Failed(summary)
     return summary.status
 
 
