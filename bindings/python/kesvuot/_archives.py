@@ -129,7 +129,12 @@ class Archive:
         except Exception as fault:  # pylint: disable=broad-except # one archive without a verdict is not all of them
             yield Member(self.path, fault=fault)
         finally:
-            self._close()
+            self.close()
+
+    @property
+    def is_packed(self) -> bool:
+        """Whether it is a file that has to be unpacked from its beginning on."""
+        return self.path != "-" and self.container is not None and isinstance(self.container.stream, Flow)
 
     def count(self) -> int:
         """How many members there are, as far as that is known without a walk. Then it is closed."""
@@ -139,9 +144,9 @@ class Archive:
         except FAULTS:
             return 1
         finally:
-            self._close()
+            self.close()
 
-    def _close(self) -> None:
+    def close(self) -> None:
         if self.file and self.path != "-":
             os.close(self.file.descriptor)
 

@@ -15,7 +15,7 @@ from ._archives import Contents as ArchivedContents
 from ._files import File, Image, Refused, verify
 from ._kinds import is_told, other_kind
 from ._paths import SEPARATOR, last_name, matched
-from ._pool import map_in_processes
+from ._pool import Work, map_in_processes
 from ._profiles import DEFAULT
 from ._reading import Contents, NotMachO, Stamp, read_found, read_given
 from ._streams import Allowance
@@ -92,12 +92,14 @@ class Outcome(NamedTuple):
 
 class Target(NamedTuple):
     """A file to judge: one that the user has named, or one that was found in a folder or an archive. Whatever is not
-    judged has its outcome already. `contents` is what a member of an archive has, or where it is."""
+    judged has its outcome already. `contents` is what a member of an archive has, or where it is. A compressed archive
+    can be a target itself: it is opened where its members are judged."""
 
     path: str
     is_found: bool = False
     outcome: Optional[Outcome] = None
     contents: Optional[ArchivedContents] = None
+    is_packed: bool = False
 
 
 class Stopped(Exception):
@@ -221,14 +223,17 @@ def without_match(patterns: List[str], path: str) -> List[str]:
 # Archives
 
 
-def open_archives(targets: Iterator[Target], choice: Choice) -> Iterator[Target]:
-    """The targets, with the members of each archive in its place."""
+def open_archives(targets: Iterator[Target], choice: Choice, leaves_packed: bool = False) -> Iterator[Target]:
+    """The targets, with the members of each archive in its place; unless it is compressed, and such are left."""
     wanted = Wanted(partial(_is_left_out_in_archive, choice), partial(_is_asked_for, choice), choice.identifies)
     for target in targets:
         can_open = not target.outcome and (choice.opens_found or not target.is_found)
         allowance = Allowance(choice.most_unpacked)
         found = archive_at(target.path, target.is_found, allowance) if can_open else None
-        if isinstance(found, Archive):
+        if isinstance(found, Archive) and leaves_packed and found.is_packed:
+            found.close()
+            yield target._replace(is_packed=True)
+        elif isinstance(found, Archive):
             # No name here has a member, which can be large.
             yield from map(partial(_target_of, choice, target), found.members(wanted, allowance))
         elif isinstance(found, Begun):
@@ -362,15 +367,27 @@ def _killed(target: Target) -> Outcome:
     return Outcome(target.path, NO_VERDICT, reason="the process that judged it has ended")
 
 
-def targets_of(paths: Iterable[str], choice: Choice) -> Iterator[Target]:
+def targets_of(paths: Iterable[str], choice: Choice, leaves_packed: bool = False) -> Iterator[Target]:
     """The files to judge, with the members of archives."""
     targets = find(paths, choice)
-    return open_archives(targets, choice) if choice.walks else targets
+    return open_archives(targets, choice, leaves_packed) if choice.walks else targets
 
 
 def judge_all(paths: Iterable[str], choice: Choice, jobs: int) -> Iterator[Outcome]:
-    """The outcomes of all files, in the order in which they are found. No more than some hundred are held at once."""
-    return map_in_processes(partial(judge, choice=choice), targets_of(paths, choice), jobs, _killed, is_input, weight_of)
+    """The outcomes of all files, in the order in which they are found. No more than some hundred are held at once, and
+    of each compressed archive some thousand. One process judges all members of such an archive: to unpack them in
+    another one and to send them costs more than to judge them."""
+    work = Work(partial(judge, choice=choice), _killed, is_input, weight_of, _is_packed, partial(_opened, choice))
+    return map_in_processes(work, targets_of(paths, choice, leaves_packed=jobs > 1), jobs)
+
+
+def _is_packed(target: Target) -> bool:
+    return target.is_packed
+
+
+def _opened(choice: Choice, target: Target) -> Iterator[Target]:
+    """The members of a compressed archive."""
+    return open_archives(iter([target._replace(is_packed=False)]), choice)
 
 
 def is_input(target: Target) -> bool:
