@@ -170,6 +170,22 @@ def archive_at(path: str, is_found: bool, allowance: Allowance) -> Union[Archive
     return archive
 
 
+def has_members(path: str, head: bytes) -> bool:
+    """Whether a file is an archive: standard input by its first bytes, which were read."""
+    allowance = Allowance(MOST_UNPACKED)
+    try:
+        if path == "-":
+            container = container_in(Window(Memory(head), 0, len(head)), allowance)
+        else:
+            archive = archive_at(path, False, allowance)
+            container = archive.container if isinstance(archive, Archive) else None
+            if isinstance(archive, Archive):
+                archive.close()
+    except (*FAULTS, Spent):
+        return False
+    return container is not None and container.kind in (ZIP, TAR)
+
+
 def _archive_of(path: str, descriptor: int, start: int, allowance: Allowance) -> Optional[Archive]:
     known = os.fstat(descriptor)
     if not stat.S_ISREG(known.st_mode):

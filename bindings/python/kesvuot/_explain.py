@@ -9,6 +9,7 @@ import textwrap
 from functools import partial
 from typing import Any, Dict, Iterator, List, Optional, Tuple
 
+from ._archives import HEAD_SIZE, has_members
 from ._case import Case
 from ._check import ACCEPTED, NO_VERDICT, Choice, Outcome, Target, judge
 from ._dump import Mark, dump
@@ -17,10 +18,11 @@ from ._explanation import Part as FilePart
 from ._files import ARCHITECTURES, File, Image
 from ._names import command_name
 from ._output import GREEN, RED, Output, coloured, say
+from ._pages import PAGES
 from ._parts import image_parts, slices_of
 from ._profiles import PROFILES, later
 from ._paths import shown
-from ._reports import PAGES, check_object, link, reason_text, rule_text
+from ._reports import check_object, link, reason_text, rule_text
 from ._rules import RULES
 from ._show import columns
 from ._stories import Told, told_of
@@ -147,12 +149,21 @@ def _texts(outcome: Outcome, told: Optional[Told]) -> Iterator[str]:
     """What the page says of the rule."""
     rule = RULES[outcome.rule]
     for text in (rule_text(outcome.rule), f"Why: {rule.why}", f"Usual cause: {rule.cause}",
-                 f"What to do: {rule.remedy}", f"How to look: {rule.look}"):
+                 f"What to do: {_remedy(outcome)}", f"How to look: {rule.look}"):
         yield from _wrapped(text, "")
     yield ""
     yield from (f"  {line}" for line in lines_to_look(outcome, told))
     yield ""
     yield f"See {link(outcome.rule)}."
+
+
+def _remedy(outcome: Outcome) -> str:
+    """What to do: of an archive, to judge what is in it."""
+    told: Optional[Told] = outcome.extra
+    if told and outcome.rule == "magic" and has_members(outcome.path, bytes(told.case.data[:HEAD_SIZE])):
+        name = shlex.quote(outcome.path) if outcome.path.isprintable() else "FILE"
+        return f"the file is an archive. Its members are judged by: kesvuot check {name}"
+    return RULES[outcome.rule].remedy
 
 
 def lines_to_look(outcome: Outcome, told: Optional[Told]) -> List[str]:
@@ -223,7 +234,7 @@ def _object(outcome: Outcome, profile: str) -> Dict[str, Any]:
         whole["not_judged"] = [{"part": part, "what": what} for part, what in outcome.extra]
     elif outcome.rule:
         rule, told = RULES[outcome.rule], outcome.extra
-        whole.update(why=rule.why, cause=rule.cause, remedy=rule.remedy, look=rule.look,
+        whole.update(why=rule.why, cause=rule.cause, remedy=_remedy(outcome), look=rule.look,
                      lines=lines_to_look(outcome, told), explanation=told and _told_object(told))
     return whole
 

@@ -8,19 +8,23 @@ from typing import TYPE_CHECKING, Any, Dict, Iterator, List, Optional
 from xml.sax.saxutils import quoteattr
 
 from ._check import ACCEPTED, NOT_BY_POLICY, Outcome
+from ._pages import PAGES
 
 if TYPE_CHECKING:
     from ._policy import Policy, Unmet
 
 # What a line begins with.
 WORDS = f"{ACCEPTED}, but {NOT_BY_POLICY}"
-# Where the keys are explained, from the folder of the pages.
-PAGE = "guide/policies.md#keys"
 
 
 def lines(outcome: Outcome) -> List[str]:
     """A line for each key and slice."""
     return [f"{WORDS}: {unmet}" for unmet in outcome.unmet]
+
+
+def page() -> str:
+    """Where the keys are explained."""
+    return PAGES.link("guide/policies.md#keys")
 
 
 def rule_of(key: str) -> str:
@@ -39,7 +43,7 @@ def sarif_rules(policy: Optional[Policy]) -> Iterator[Dict[str, Any]]:
     for key in policy.keys if policy else ():
         yield {"id": rule_of(key.name), "name": "Policy" + key.name.title().replace("-", "").replace(".", ""),
                "shortDescription": {"text": rule_of(key.name)}, "fullDescription": {"text": key.asks},
-               "help": {"text": f"The policy asks: {key.asks}\nSee {PAGE}."},
+               "help": {"text": f"The policy asks: {key.asks}\nSee {page()}."},
                "defaultConfiguration": {"level": "error"}}
 
 

@@ -12,8 +12,11 @@ from ._paths import printable, shown
 from ._policy import judge_key, policy_of
 from ._policy_facts import Facts
 from ._policy_keys import KEYS
+from ._profiles import later
 from ._reports import reason_text
 
+# The tables of what the linked profile judges first.
+LINKED_TABLES = "signature", "exports"
 # A list of TOML with longer lines has a line for each item.
 WIDTH = 100
 
@@ -28,10 +31,17 @@ def write_policy(path: str, profile: str, as_json: bool) -> int:
         met, _ = outcome.extra
         output.write(json.dumps(nested(met), indent=2) + "\n")
     else:
-        for line in toml_lines(path, *outcome.extra):
+        for line in toml_lines(path, *outcome.extra, note_of(profile)):
             output.write(line + "\n")
     output.flush()
+    if as_json and outcome.word == ACCEPTED and note_of(profile):
+        say(f"{' and '.join(LINKED_TABLES)}: {note_of(profile)}")
     return outcome.status
+
+
+def note_of(profile: str) -> str:
+    """What is said of the tables whose data a profile does not judge."""
+    return "only --profile linked or a later one judges what this is read from" if "linked" in later(profile) else ""
 
 
 def proposals(file: File) -> Tuple[Dict[str, Any], Dict[str, str]]:
@@ -58,8 +68,9 @@ def nested(keys: Dict[str, Any]) -> Dict[str, Any]:
     return whole
 
 
-def toml_lines(path: str, met: Dict[str, Any], unmet: Dict[str, str]) -> Iterator[str]:
-    """The text in TOML. What is not met stands in comments. In TOML the keys outside of tables come first."""
+def toml_lines(path: str, met: Dict[str, Any], unmet: Dict[str, str], note: str = "") -> Iterator[str]:
+    """The text in TOML, with a note at some tables. What is not met stands in comments. In TOML the keys outside of
+    tables come first."""
     yield "# A policy for `kesvuot check --policy`. It is met by this file:"
     yield f"# {_quoted(path)}"
     plain = [name for name in KEYS if "." not in name]
@@ -68,7 +79,8 @@ def toml_lines(path: str, met: Dict[str, Any], unmet: Dict[str, str]) -> Iterato
         lines = list(_toml_keys([name for name in KEYS if name.startswith(f"{table}.")], met, unmet))
         if lines:
             is_asked = any(name.startswith(f"{table}.") for name in met)
-            yield from ("", f"[{table}]" if is_asked else f"# [{table}]", *lines)
+            notes = [f"# {note[0].upper()}{note[1:]}."] if note and table in LINKED_TABLES else []
+            yield from ("", f"[{table}]" if is_asked else f"# [{table}]", *notes, *lines)
 
 
 def _toml_keys(names: List[str], met: Dict[str, Any], unmet: Dict[str, str]) -> Iterator[str]:

@@ -4,7 +4,6 @@ is kept, however many there are."""
 from __future__ import annotations
 
 import json
-import os
 import signal
 import tempfile
 from typing import TYPE_CHECKING, Any, Callable, Dict, Optional, Type
@@ -16,8 +15,8 @@ from ._check import (
     Summary)
 from ._explanation import explain
 from ._files import Refused
-from ._library import INSTALLED
 from ._output import AS_BYTES
+from ._pages import PAGES
 from ._paths import file_object, located, shown, uri
 from ._reading import Contents
 from ._rules import RULES, Rule
@@ -50,33 +49,6 @@ RULES_AND_CHOICES: Dict[str, Rule] = {**RULES, UNSUPPORTED_SLICE: Rule(
 def rule_text(rule: str) -> str:
     """When a rule is violated."""
     return f"Violated when {RULES_AND_CHOICES[rule].broken}"
-
-
-class Pages:
-    """Where the pages of the rules are: their folder, as a URI that the user gives, or else that of the installation or
-    the repository that the package is in. Where they are not, a link has the name of the page."""
-
-    # The folders, from the folder of the installation or of the package.
-    OF_INSTALLATION, OF_REPOSITORY = "share/doc/kesvuot/rules", "../../../docs/rules"
-
-    def __init__(self) -> None:
-        self.url = ""
-
-    def link(self, section: str) -> str:
-        """A section of a page, such as `rules/layout.md#magic`."""
-        return f"{self._url()}/{section.partition('/')[2]}"
-
-    def _url(self) -> str:
-        if self.url:
-            return self.url.rstrip("/")
-        package = os.path.dirname(os.path.realpath(__file__))
-        installed = INSTALLED.fullmatch(package)
-        folders = [os.path.join(installed[1], self.OF_INSTALLATION)] if installed else []
-        folders.append(os.path.normpath(os.path.join(package, self.OF_REPOSITORY)))
-        return next((uri(folder) for folder in folders if os.path.isfile(os.path.join(folder, "layout.md"))), "rules")
-
-
-PAGES = Pages()
 
 
 def link(rule: str) -> str:
@@ -346,7 +318,7 @@ class GitHub(Report):
                                                   f"See {link(outcome.rule)}.")
         elif outcome.word == NOT_BY_POLICY:
             for unmet, line in zip(outcome.unmet, _policy_reports.lines(outcome)):
-                self._annotate(outcome, _policy_reports.rule_of(unmet.key), f"{line}. See {_policy_reports.PAGE}.")
+                self._annotate(outcome, _policy_reports.rule_of(unmet.key), f"{line}. See {_policy_reports.page()}.")
         elif outcome.word == NO_VERDICT:
             self._annotate(outcome, outcome.word, reason_text(outcome))
 

@@ -22,8 +22,9 @@ from ._map import STANDARD_OUTPUT, map_file
 from ._output import GREEN, RED, YELLOW, Output, coloured, end_by, open_errors, say, write_failed
 from ._profiles import DEFAULT, PROFILES
 from ._progress import Progress, is_terminal
+from ._pages import PAGES
 from ._paths import file_object, printable, shown
-from ._reports import PAGES, REPORTS, RULES_AND_CHOICES, VERSION, Report, Write, reason_text
+from ._reports import REPORTS, RULES_AND_CHOICES, VERSION, Report, Write, reason_text
 from ._show import columns, show
 from ._stores import add_words, check_words, for_store, manifest_of, outcomes_of
 
@@ -285,7 +286,7 @@ def _report_all(interrupts: Interrupts, outcomes: Iterator[Outcome], choice: Cho
         name = signal.Signals(number).name
         summary.end_early("interrupted" if number == signal.SIGINT else f"ended by {name}", number)
     elif unmatched and not summary.fault:
-        summary.fail(f"--include {printable(', '.join(unmatched))}: no file has such a name")
+        summary.fail(f"--include {printable(', '.join(unmatched))}: no file to judge has such a name")
     told.end(summary)
     if summary.fault:
         raise Failed(summary)
@@ -359,7 +360,7 @@ gzip, bzip2 or xz) it judges the members, in memory: nothing is written.""")
     parser.add_argument("--no-unsupported-slices", action="store_true",
                         help="refuse universal files with a 32-bit or big-endian slice, in which nothing is judged")
     parser.add_argument("--policy", metavar="FILE",
-                        help="what accepted files have to meet besides, in TOML or JSON: docs/guide/policies.md")
+                        help="what accepted files have to meet besides, in TOML or JSON: see kesvuot(1)")
     parser.add_argument("--jobs", type=_positive, default=len(os.sched_getaffinity(0)), metavar="N",
                         help="how many processes judge (one for each processor)")
     parser.add_argument("--mmap", action="store_true", help="map files instead of reading them. ONLY FOR FILES THAT "
