@@ -24,7 +24,7 @@ if _is_command():
 
 # pylint: disable=wrong-import-position
 from contextlib import contextmanager
-from typing import Any, Iterator, TypeVar
+from typing import Any, Iterator, List, TypeVar
 
 Result = TypeVar("Result")
 
@@ -40,16 +40,17 @@ class Interrupts:
     def __init__(self) -> None:
         self.number = 0
         self._waits = False
+        self._watched: List[int] = []
 
     def watch(self) -> None:
         """From now on the signals are acted on, except those that are ignored."""
-        for number in SIGNALS:
-            if _signal.getsignal(number) is _signal.SIG_DFL:
-                _signal.signal(number, self._come)
+        self._watched = [number for number in SIGNALS if _signal.getsignal(number) is _signal.SIG_DFL]
+        for number in self._watched:
+            _signal.signal(number, self._come)
 
     def _come(self, number: int, *_: Any) -> None:
         # What is written after it comes once.
-        for each in SIGNALS:
+        for each in self._watched:
             _signal.signal(each, _signal.SIG_IGN)
         self.number = number
         if self._waits:

@@ -17,8 +17,8 @@ class ListError(Stopped):
 
 
 def names_in(path: str, end: bytes) -> Iterator[str]:
-    """The names in a list, each of which ends in this byte. No more than a piece of the list is held. The first piece is
-    read at once: what cannot be read at all is an error before anything is judged."""
+    """The names in a list, each of which ends in this byte. No more than a piece of the list is held. The first one is
+    read at once: a list that cannot be read is an error before anything is judged."""
     try:
         descriptor = 0 if path == STANDARD_INPUT else os.open(path, os.O_RDONLY | os.O_CLOEXEC)
     except OSError as error:
