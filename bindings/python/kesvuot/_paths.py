@@ -38,8 +38,8 @@ def shown(path: str) -> str:
 
 
 def file_object(path: str) -> Dict[str, str]:
-    """A path, for JSON, whose texts have no half of a letter. A name that is not UTF-8, or that has an exclamation mark,
-    is written as it is shown, and all bytes are there too, in hexadecimal."""
+    """A path, for JSON, whose texts have no half of a letter. A name that is not UTF-8, or has an exclamation mark, is
+    written as it is shown, and all bytes are there too, in hexadecimal."""
     plain = matched(path)
     try:
         plain.encode("utf-8")

@@ -6,8 +6,8 @@ killed costs the one item on which it ended. It ends when the process that has s
 An item may take bytes along, its weight. Only a process that waits gets such items: nobody blocks. A heavy one is not
 copied: a new process has it from the process that starts it.
 
-An item may have others in it, as a compressed archive has. A process that waits does them one after the other, and sends
-their results as they come.
+An item may have others in it, as a compressed archive has. A process that waits does them one after the other, and
+sends their results as they come.
 """
 
 from __future__ import annotations

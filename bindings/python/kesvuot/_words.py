@@ -12,7 +12,8 @@ from typing import TYPE_CHECKING, Any, Callable, Counter, Dict, Iterator, List, 
 from . import _check, _policy_reports, library_version
 from ._archives import MOST_UNPACKED
 from ._check import (
-    ACCEPTED, NO_VERDICT, NOT_BY_POLICY, OTHER_KIND, REFUSED, Choice, Outcome, Stopped, Summary, judge_all, without_match)
+    ACCEPTED, NO_VERDICT, NOT_BY_POLICY, OTHER_KIND, REFUSED, Choice, Outcome, Stopped, Summary, judge_all,
+    without_match)
 from ._diff import diff
 from ._explain import explain_file
 from ._files import File
