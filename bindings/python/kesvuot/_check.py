@@ -377,8 +377,12 @@ def judge_all(paths: Iterable[str], choice: Choice, jobs: int) -> Iterator[Outco
     """The outcomes of all files, in the order in which they are found. No more than some hundred are held at once, and
     of each compressed archive some thousand. One process judges all members of such an archive: to unpack them in
     another one and to send them costs more than to judge them."""
-    work = Work(partial(judge, choice=choice), _killed, is_input, weight_of, _is_packed, partial(_opened, choice))
+    work = Work(partial(judge, choice=choice), _known, _killed, is_input, weight_of, _is_packed, partial(_opened, choice))
     return map_in_processes(work, targets_of(paths, choice, leaves_packed=jobs > 1), jobs)
+
+
+def _known(target: Target) -> Optional[Outcome]:
+    return target.outcome
 
 
 def _is_packed(target: Target) -> bool:

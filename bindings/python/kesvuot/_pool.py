@@ -18,7 +18,7 @@ import signal
 from collections import deque
 from itertools import islice
 from multiprocessing.connection import Connection, Pipe, wait
-from typing import Any, Callable, Deque, Dict, Iterator, List, NamedTuple, Optional, TypeVar
+from typing import Any, Callable, Deque, Dict, Iterable, Iterator, List, NamedTuple, Optional, Tuple, TypeVar
 
 from ._interrupts import forget_interrupts, held_interrupts
 
@@ -26,8 +26,9 @@ Item = TypeVar("Item")
 
 # <linux/prctl.h>: a process gets a signal when the one that has started it ends.
 PR_SET_PDEATHSIG = 1
-# How many items a process gets at once. The first ones get one each: there may be few, and large.
-BATCH = 16
+# How many items a process gets at once. The first ones get one each: there may be few, and large. And how many results
+# that are known already wait with them.
+BATCH, MOST_KNOWN = 16, 256
 # Items of so many bytes are no longer sent, alone or together.
 HEAVY = 1 << 20
 # So many tasks each process has: one that it does, and one that waits.
@@ -66,12 +67,15 @@ class Order(NamedTuple):
 
 
 class Task:
-    """Some items, with those results that are there and were not taken; or one item that `has_others` in it."""
+    """Some items, with those results that are there and were not taken; or one item that `has_others` in it. Results that
+    are known before come with their places among all results."""
 
-    def __init__(self, items: List[Any], weight: int = 0, has_others: bool = False) -> None:
+    def __init__(self, items: List[Any], weight: int = 0, has_others: bool = False,
+                 known: Iterable[Tuple[int, Any]] = ()) -> None:
         self.items = items
         self.weight = weight
         self.has_others = has_others
+        self.known = known
         self.results: List[Any] = []
         self.is_done = False
         # How many results there were, and whether each of them is sent at once. And the results of what its process
@@ -86,6 +90,8 @@ class Task:
 
     def end(self, results: List[Any]) -> None:
         """Nobody needs the items any more."""
+        for place, result in self.known:
+            results.insert(place, result)
         self.add(results)
         self.is_done = True
         self.items.clear()
@@ -114,10 +120,12 @@ class Worker(NamedTuple):
 
 
 class Work(NamedTuple):
-    """What is done to an item, and what its result is if its process has ended. An item that `is_here` is done in this
-    process. `weigh` says how many bytes an item takes along. `opened` gives the items in one that `has_others`."""
+    """What is done to an item, what its result is if that is `known` before, and what it is if its process has ended. An
+    item that `is_here` is done in this process. `weigh` says how many bytes an item takes along. `opened` gives the
+    items in one that `has_others`."""
 
     do: Callable[[Any], Any]
+    known: Callable[[Any], Any]
     ended: Callable[[Any], Any]
     is_here: Callable[[Any], bool]
     weigh: Callable[[Any], int]
@@ -154,24 +162,35 @@ def _popped(first: Deque[Item], others: Iterator[Item]) -> Iterator[Item]:
 def _tasks(work: Work, items: Iterator[Any], jobs: int) -> Iterator[Task]:
     singles = 4 * jobs
     batch: List[Any] = []
+    known: List[Tuple[int, Any]] = []
     together = 0
     for item in items:
+        result = work.known(item)
+        if result is not None and len(known) < MOST_KNOWN:
+            known.append((len(batch) + len(known), result))
+            continue
         here, weight, has_others = work.is_here(item), work.weigh(item), work.has_others(item)
-        if batch and (here or has_others or singles > 0 or len(batch) == BATCH or together + weight > HEAVY):
-            yield Task(batch, together)
-            batch, together, singles = [], 0, singles - 1
-        if here:
-            task = Task([])
-            task.end([work.do(item)])
-            yield task
+        is_full = len(known) == MOST_KNOWN or len(batch) == BATCH or together + weight > HEAVY
+        if (batch or known) and (here or has_others or is_full or (batch and singles > 0)):
+            yield _task(batch, together, known)
+            batch, known, together, singles = [], [], 0, singles - 1
+        if result is not None or here:
+            yield _task([], 0, [(0, work.do(item) if result is None else result)])
         elif has_others:
             yield Task([item], has_others=True)
         else:
             batch.append(item)
             together += weight
         del item
-    if batch:
-        yield Task(batch, together)
+    if batch or known:
+        yield _task(batch, together, known)
+
+
+def _task(batch: List[Any], weight: int, known: List[Tuple[int, Any]]) -> Task:
+    task = Task(batch, weight, known=known)
+    if not batch:
+        task.end([])
+    return task
 
 
 class _Pool:
