@@ -377,7 +377,8 @@ def judge_all(paths: Iterable[str], choice: Choice, jobs: int) -> Iterator[Outco
     """The outcomes of all files, in the order in which they are found. No more than some hundred are held at once, and
     of each compressed archive some thousand. One process judges all members of such an archive: to unpack them in
     another one and to send them costs more than to judge them."""
-    work = Work(partial(judge, choice=choice), _known, _killed, is_input, weight_of, _is_packed, partial(_opened, choice))
+    do, opened = partial(judge, choice=choice), partial(_opened, choice)
+    work = Work(do, _known, _killed, is_input, weight_of, _is_packed, opened)
     return map_in_processes(work, targets_of(paths, choice, leaves_packed=jobs > 1), jobs)
 
 
