@@ -28,14 +28,15 @@ def write_policy(path: str, profile: str, as_json: bool) -> int:
     if outcome.word != ACCEPTED:
         say(f"{shown(path)}: {outcome.reason if outcome.word == NO_VERDICT else reason_text(outcome)}")
     elif as_json:
-        met, _ = outcome.extra
-        output.write(json.dumps(nested(met), indent=2) + "\n")
+        whole = nested(outcome.extra[0])
+        output.write(json.dumps(whole, indent=2) + "\n")
+        tables = [table for table in LINKED_TABLES if table in whole]
+        if tables and note_of(profile):
+            say(f"{' and '.join(tables)}: {note_of(profile)}")
     else:
         for line in toml_lines(path, *outcome.extra, note_of(profile)):
             output.write(line + "\n")
     output.flush()
-    if as_json and outcome.word == ACCEPTED and note_of(profile):
-        say(f"{' and '.join(LINKED_TABLES)}: {note_of(profile)}")
     return outcome.status
 
 
