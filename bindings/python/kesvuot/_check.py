@@ -29,7 +29,7 @@ NOT_BY_POLICY = "not by the policy"
 # What was found in a folder or an archive and says that it is of a kind that is not judged, such as an object file.
 OTHER_KIND = "other kind"
 STATUSES = {ACCEPTED: 0, SKIPPED: 0, OTHER_KIND: 0, REFUSED: 1, NOT_BY_POLICY: 1, NO_VERDICT: 2}
-# What is said of a run that has ended early.
+# The words for a run that has ended early.
 NOT_ALL = "not all files were judged"
 # The parts of a path that name no file in a folder.
 NO_NAMES = frozenset(("", ".", ".."))
