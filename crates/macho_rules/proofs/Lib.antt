@@ -15,7 +15,6 @@ pub mod TableRange
 pub mod KeptSlices
 pub mod FileMemory
 pub mod Verdicts
-pub mod Second
 pub mod Surveys
 pub mod Profiles
 pub mod Refusals

@@ -58,10 +58,6 @@ IsSliceRefusal file slice (refusal.Broken b) =
 IsSliceRefusal file slice refusal.Memory =
     IsImageRefusal (slice_bytes file slice) slice.arch refusal.Memory
 
--- b is the first break of the image in a slice, with its place in the file
-abbrev pub IsSliceBreak : List ℕ → FileSlice → Break → Type 0
-IsSliceBreak file slice b = IsSliceRefusal file slice (refusal.Broken b)
-
 -- A refusal of a file is its first broken rule, or that there was no memory, which is reported only
 -- if the verdict takes memory.
 abbrev pub IsRefusal : List ℕ → Refusal → Type 0

@@ -11,9 +11,9 @@ use macho_fields::header::vm_prot::VM_PROT_EXECUTE;
 use macho_fields::{Break, Rule, Span};
 use macho_image::{Image, MainCommand, Segment};
 
-// The entry is at a byte of the file, in memory that may be executed. `base` is the base address of
-// the image.
-pub(crate) fn entry(image: &Image, base: Option<u64>) -> Result<(), Break>
+/// The entry is at a byte of the file, in memory that may be executed. `base` is the base address of
+/// the image.
+pub fn entry(image: &Image, base: Option<u64>) -> Result<(), Break>
     requires kept { KeptBefore image.now Rule.Entry }
     requires base { base ≡ base_of image.now (commands_of image.now) }
     ensures { JudgesUpTo image.now Rule.Entry result }

@@ -3,17 +3,16 @@
 //! order; and what is at the addresses of an accepted file.
 
 mod check;
-mod entry;
+pub mod entry;
 pub mod law;
 pub mod mapping;
 pub mod profile;
 pub mod refusal;
-mod sections;
-mod segments;
-pub mod slow;
+pub mod sections;
+pub mod segments;
 mod survey;
-mod symbols;
-mod tables;
+pub mod symbols;
+pub mod tables;
 pub mod verdict;
 
 pub use check::check_image;
@@ -21,6 +20,5 @@ pub use entry::is_executable;
 pub use mapping::{Mapping, Source};
 pub use profile::{ImageProfile, ProfileRules, check_images};
 pub use refusal::Refusal;
-pub use slow::slow_first;
 pub use symbols::{name_limit, symbol_count};
 pub use verdict::{Verified, verify};

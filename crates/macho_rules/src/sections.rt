@@ -8,8 +8,8 @@ use macho_fields::Span;
 use macho_fields::header::reloc::RELOCATION_INFO_SIZE;
 use macho_image::{Image, Section};
 
-// Whether the segment of the section is mapped, and the section has an address outside of it.
-pub(crate) fn is_outside_memory(section: &Section) -> bool
+/// Whether the segment of the section is mapped, and the section has an address outside of it.
+pub fn is_outside_memory(section: &Section) -> bool
     ensures { IsTrue result
         ↔ IsOutsideMemory section.now.image section.now.segment section.now.place }
 {
@@ -17,8 +17,8 @@ pub(crate) fn is_outside_memory(section: &Section) -> bool
     segment.vmsize() > 0 && section.size() > 0 && !section.memory().inside(&segment.memory())
 }
 
-// Whether the section has bytes, and they are not where its segment puts them.
-pub(crate) fn is_misplaced(section: &Section) -> bool
+/// Whether the section has bytes, and they are not where its segment puts them.
+pub fn is_misplaced(section: &Section) -> bool
     ensures { IsTrue result ↔ IsMisplaced section.now.image section.now.segment section.now.place }
 {
     if section.size() == 0 || section.is_zero_fill() {
@@ -48,8 +48,8 @@ fn is_in_file_part(section: &Section) -> bool
         && part.end() <= u128::from(segment.filesize())
 }
 
-// Whether the section has relocations, and they end past the image.
-pub(crate) fn has_relocs_outside(section: &Section) -> bool
+/// Whether the section has relocations, and they end past the image.
+pub fn has_relocs_outside(section: &Section) -> bool
     ensures { IsTrue result ↔ HasRelocsOutside section.now.image section.now.place }
 {
     if section.nreloc() == 0 {

@@ -20,22 +20,22 @@ use std::alloc::{AllocError, Global};
 // One past the last address.
 const ADDRESS_END: u128 = 1 << 64;
 
-// Whether the addresses of the segment end past 2^64.
-pub(crate) fn passes_last_address(segment: &Segment) -> bool
+/// Whether the addresses of the segment end past 2^64.
+pub fn passes_last_address(segment: &Segment) -> bool
     ensures { IsTrue result ↔ PassesLastAddress segment.now.image segment.now.place }
 {
     segment.memory().end() > ADDRESS_END
 }
 
-// Whether the segment is mapped, and has more bytes in the file than in memory.
-pub(crate) fn is_longer_in_file(segment: &Segment) -> bool
+/// Whether the segment is mapped, and has more bytes in the file than in memory.
+pub fn is_longer_in_file(segment: &Segment) -> bool
     ensures { IsTrue result ↔ IsLongerInFile segment.now.image segment.now.place }
 {
     segment.vmsize() > 0 && segment.filesize() > segment.vmsize()
 }
 
-// Whether the segment has bytes in the file, and they end past the image.
-pub(crate) fn passes_image(segment: &Segment) -> bool
+/// Whether the segment has bytes in the file, and they end past the image.
+pub fn passes_image(segment: &Segment) -> bool
     ensures { IsTrue result ↔ PassesImage segment.now.image segment.now.place }
 {
     segment.filesize() > 0 && !segment.image().contains(segment.file_part())

@@ -129,15 +129,15 @@ fn has_endless_name(symbol: Symbol, limit: u64) -> bool
     symbol.strx != 0 && u64::from(symbol.strx) >= limit
 }
 
-// Whether the symbol is defined in a section, and none of `count` sections has its number.
-pub(crate) fn is_in_no_section(symbol: Symbol, count: u64) -> bool
+/// Whether the symbol is defined in a section, and none of `count` sections has its number.
+pub fn is_in_no_section(symbol: Symbol, count: u64) -> bool
     ensures { IsTrue result ↔ LacksSection count symbol }
 {
     symbol.names_section() && (symbol.sect == 0 || u64::from(symbol.sect) > count)
 }
 
-// Each indirect entry that is not marked is the index of an existing symbol.
-pub(crate) fn indirect_index(image: &Image) -> Result<(), Break>
+/// Each indirect entry that is not marked is the index of an existing symbol.
+pub fn indirect_index(image: &Image) -> Result<(), Break>
     requires { KeptBefore image.now Rule.IndirectIndex }
     ensures { JudgesUpTo image.now Rule.IndirectIndex result }
 {

@@ -16,8 +16,8 @@ use crate::symbols::symbol_count;
 use macho_fields::{Break, Bytes, Rule, TableFields, structure_of};
 use macho_image::{Dysymtab, Image};
 
-// Each table that a command names and that has items lies inside the image.
-pub(crate) fn table_range(image: &Image) -> Result<(), Break>
+/// Each table that a command names and that has items lies inside the image.
+pub fn table_range(image: &Image) -> Result<(), Break>
     requires { KeptBefore image.now Rule.TableRange }
     ensures { JudgesUpTo image.now Rule.TableRange result }
 {
@@ -62,8 +62,8 @@ fn is_outside(image: Bytes, command: u64, fields: TableFields) -> bool
     count > 0 && !image.contains_table(start, count, fields.item_size)
 }
 
-// Each group of symbols that is not empty lies inside the symbol table.
-pub(crate) fn symbol_group(image: &Image) -> Result<(), Break>
+/// Each group of symbols that is not empty lies inside the symbol table.
+pub fn symbol_group(image: &Image) -> Result<(), Break>
     requires { KeptBefore image.now Rule.SymbolGroup }
     ensures { JudgesUpTo image.now Rule.SymbolGroup result }
 {
