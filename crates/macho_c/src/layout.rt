@@ -6,8 +6,9 @@ ghost use Rattle.macho_report.specs.Layout.{layout_text};
 ghost use Rattle.macho_c.specs.Layout.{IsLayout, IsLayoutRefusal, begun_with};
 
 use crate::status::{NO_MEMORY, OK, REFUSED};
-use macho_report::{Failed, Output, write_layout};
+use macho_report::write_layout;
 use macho_rules::{Refusal, verify};
+use macho_text::{Failed, Output};
 use std::alloc::Global;
 
 /// Decides the rules of a file, and writes the layout of an accepted one to the buffer as text: its first

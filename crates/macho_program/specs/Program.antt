@@ -3,15 +3,15 @@ use Rattle.std.specs.Prelude.{ℕ, List, drop, length, map, ⊤, Option, Some, N
 use Rattle.std.specs.Borrow.{Bor}
 use Rattle.std.specs.Io.KnownBytes.{IsAtEnd}
 use Rattle.std.specs.Str.{bytes_eq}
-use Rattle.macho_report.specs.Stream.{TookAtMost, Wrote, WrotePrefix}
+use Rattle.macho_text.specs.Stream.{TookAtMost, Wrote, WrotePrefix}
+use Rattle.macho_text.specs.declared.stream.Input as input
+use Rattle.macho_text.specs.declared.stream.Output as output
+use Rattle.macho_text.specs.declared.stream.Flush as flush
 use Rattle.macho_report.specs.Run.{WroteVerdict, WroteVerdictPrefix}
 use Rattle.macho_report.specs.Where.{WroteWhere, WroteWherePrefix}
 use Rattle.macho_report.specs.declared.address.WhereOutcome.TheVariants.{NoImage}
 use Rattle.macho_report.specs.declared.judge.Judge as judge
 use Rattle.macho_report.specs.declared.outcome.RunFault.TheVariants as run
-use Rattle.macho_report.specs.declared.stream.Input as input
-use Rattle.macho_report.specs.declared.stream.Output as output
-use Rattle.macho_report.specs.declared.stream.Flush as flush
 use Rattle.macho_program.specs.Asked.{Asked, shows, asks, asked_by}
 use Rattle.macho_program.specs.declared.task.Question.TheVariants as question
 use Rattle.macho_program.specs.declared.task.Task.{Task}

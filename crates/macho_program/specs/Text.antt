@@ -1,9 +1,9 @@
 -- The lines on standard error. Each ends with one line feed.
 use Rattle.std.specs.Prelude.{◌≡◌, ℕ, List, Option, Some, None, Result, Ok, Err, codes}
-use Rattle.macho_report.specs.Stream.{WritesUnlessFailed}
+use Rattle.macho_text.specs.Stream.{WritesUnlessFailed}
+use Rattle.macho_text.specs.declared.stream.Output as output
 use Rattle.macho_report.specs.Text.{run_fault_reason, words_line}
 use Rattle.macho_report.specs.declared.address.WhereOutcome.TheVariants.{NoImage}
-use Rattle.macho_report.specs.declared.stream.Output as output
 use Rattle.macho_program.specs.declared.words.WordFault.{WordFault}
 use Rattle.macho_program.specs.declared.words.WordFault.TheVariants as words
 use Rattle.macho_program.specs.declared.program.Found.{Found}

@@ -2,7 +2,7 @@
 
 ghost use Rattle.std.specs.Prelude.{◌≡◌, ℕ, List, Option, Some, None, IfOk, IfSome};
 
-use macho_report::Failed;
+use macho_text::Failed;
 use std::fs::File;
 use std::io::Read;
 use std::rt::Files;

@@ -2,8 +2,8 @@
 //! it, and the line on standard error.
 
 ghost use Rattle.std.specs.Prelude.{◌≡◌, ⊤, ℕ, List, Ok, Err};
+ghost use Rattle.macho_text.specs.Stream.{WritesUnlessFailed};
 ghost use Rattle.macho_report.specs.declared.outcome.RunFault.TheVariants as fault;
-ghost use Rattle.macho_report.specs.Stream.{WritesUnlessFailed};
 ghost use Rattle.macho_report.specs.Text.{words_line};
 ghost use Rattle.macho_program.specs.Asked.{asks};
 ghost use Rattle.macho_program.specs.Program.{AnswersWords, EndsRight, ShowsRight, IsOfStandardInput, input_of, request_of};
@@ -14,10 +14,8 @@ use crate::files::Open;
 use crate::task::{Question, Task};
 use crate::tools::Tool;
 use crate::words::{BAD_NUMBER, STANDARD_INPUT, WordFault};
-use macho_report::{
-    Flush, FromRead, Input, Judge, Outcome, Output, RunFault, WhereOutcome, run_where, run_with,
-    write_all, write_words,
-};
+use macho_report::{Judge, Outcome, RunFault, WhereOutcome, run_where, run_with, write_words};
+use macho_text::{Flush, FromRead, Input, Output, write_all};
 use std::alloc::Global;
 use std::convert::AsStr;
 use thiserror::Error;

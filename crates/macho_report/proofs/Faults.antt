@@ -1,38 +1,17 @@
 -- What is returned at a fault.
-use Rattle.std.proofs.Common.{◌≡◌, ℕ, Bool, List, Result, Ok, Err, IsErrOf, IsTrue, inl, inr, refl, ap, subst}
-use Rattle.std.specs.Prelude.{IsErrAnd}
+use Rattle.std.proofs.Common.{◌≡◌, ℕ, Bool, List, Ok, Err, IsErrOf, IsTrue, inl, inr, refl, subst}
 use Rattle.macho_fields.specs.declared.rule.Break.{Break}
 use Rattle.macho_rules.specs.declared.refusal.Refusal.{Refusal}
 use Rattle.macho_rules.specs.declared.refusal.Refusal.TheVariants.{Broken}
+use Rattle.macho_text.proofs.Results.{no_fault, same_fault}
 use Rattle.macho_report.specs.Judge.{IsRefusalBy}
 use Rattle.macho_report.specs.Run.{FailsRight}
 use Rattle.macho_report.specs.declared.outcome.RunFault.{RunFault}
 use Rattle.macho_report.specs.declared.outcome.RunFault.TheVariants as fault
 
--- what a `?` returns is the fault that it makes
-pub at_fault : {T E : Type 0} (r : Result T E) (fault : E) → IsErrAnd r (λ e. e ≡ fault) → r ≡ Err fault
-at_fault (Ok x) fault is = absurd is
-at_fault (Err e) fault is = ap Err is
-
--- the same fault, of a call that returns something else
-pub same_fault : {T U E : Type 0} (e f : E) → IsErrOf {T = T} (Err e) f → IsErrOf {T = U} (Err e) f
-same_fault e f is = let same : e ≡ f = cc in ap Err same
-
 -- the break of a refusal is one that the file is refused for
 pub refused_for : (refuses : List ℕ → Break → Type 0) (file : List ℕ) (why : Refusal) (b : Break) → why ≡ Broken b → IsRefusalBy refuses file why → refuses file b
 refused_for refuses file why b is refused = subst (IsRefusalBy refuses file) is refused
-
--- what has an answer has no fault
-pub no_fault : {T E : Type 0} (x : T) (e : E) → ¬ IsErrOf (Ok x) e
-no_fault x e is = cc
-
--- what has a fault has no answer
-pub no_answer : {T E : Type 0} (e : E) (x : T) → ¬ (Err e ≡ Ok x)
-no_answer e x is = cc
-
--- the answer is another one
-pub other_answer : {T E : Type 0} (r : Result T E) (x y : T) → r ≡ Ok x → ¬ (x ≡ y) → ¬ (r ≡ Ok y)
-other_answer r x y first other second = let same : x ≡ y = cc in other same
 
 -- a fault of memory is not a fault of writing
 no_write_fault : {T : Type 0} → ¬ IsErrOf {T = T} (Err fault.Memory) fault.Write

@@ -1,13 +1,5 @@
-pub mod StreamLemmas
-pub mod Writers
-pub mod Digits
 pub mod LineTexts
-pub mod Holding
-pub mod Puts
-pub mod Texts
-pub mod Loops
 pub mod Slices
 pub mod Where
 pub mod Faults
 pub mod Runs
-pub mod Room

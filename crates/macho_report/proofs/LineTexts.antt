@@ -3,10 +3,10 @@ use Rattle.std.proofs.Common.{◌≡◌, ℕ, Option, None, Some, List, [], ◌�
 use Rattle.std.proofs.lemmas.Option.{same_Some}
 use Rattle.std.specs.Option.{option_map, option_map_or}
 use Rattle.std.specs.Prelude.{codes}
-use Rattle.macho_report.specs.Stream.{joined}
+use Rattle.macho_text.specs.Stream.{joined}
+use Rattle.macho_text.specs.Number.{hex, prefixed_hex}
 use Rattle.macho_report.specs.Line.{library_word}
 use Rattle.macho_report.specs.LineParts.{extent_text, library_start}
-use Rattle.macho_report.specs.Number.{hex, prefixed_hex}
 
 -- the line of a library, whose first three texts are one part
 pub library_begins : (kind : ℕ) (rest : List (List ℕ)) → joined (library_start kind ∷ rest) ≡ joined (codes "  " ∷ library_word kind ∷ codes " " ∷ rest)

@@ -2,13 +2,13 @@
 use Rattle.std.proofs.Common.{◌≡◌, ℕ, ◌≤◌, List, Option, Some, None, Result, Ok, Err, IfOk, IsErrOf, length, inl, inr, refl, ap, arith, subst}
 use Rattle.std.specs.Prelude.{◌⊎◌, ◌↔◌, ◌+◌, ◌<◌, IfErr, IfSome, IsTrue, OnOk}
 use Rattle.std.specs.Io.KnownBytes.{IsAtEnd}
-use Rattle.macho_report.specs.Stream.{TookAtMost}
+use Rattle.macho_text.specs.Stream.{TookAtMost}
+use Rattle.macho_text.specs.declared.stream.Input as input
+use Rattle.macho_text.specs.declared.transfer.ReadFault.{ReadFault}
+use Rattle.macho_text.specs.declared.transfer.ReadFault.TheVariants.{Read, TooLong, Memory}
 use Rattle.macho_report.specs.Run.{ReadsRight, run_fault_of}
 use Rattle.macho_report.specs.declared.outcome.RunFault.{RunFault}
 use Rattle.macho_report.specs.declared.outcome.RunFault.TheVariants as fault
-use Rattle.macho_report.specs.declared.stream.Input as input
-use Rattle.macho_report.specs.declared.transfer.ReadFault.{ReadFault}
-use Rattle.macho_report.specs.declared.transfer.ReadFault.TheVariants.{Read, TooLong, Memory}
 
 -- what holds of the bytes that were read, at most `limit`, holds of the input
 pub input_is : (input : Option (List ℕ)) (bytes : List ℕ) (limit : ℕ) (P : List ℕ → Type 0) → IfSome input (λ all. bytes ≡ all) → length bytes ≤ limit

@@ -8,10 +8,10 @@ use Rattle.std.specs.Prelude.{slice_get}
 use Rattle.macho_fields.specs.Universal.{FileSlice, IsImage, slice_bytes}
 use Rattle.macho_fields.specs.FileTypes.{FileTypeView, file_type_of}
 use Rattle.macho_fields.specs.Image.{file_type}
-use Rattle.macho_report.specs.Writer.{HoldsText}
-use Rattle.macho_report.specs.declared.stream.Output as output
+use Rattle.macho_text.specs.Writer.{HoldsText}
+use Rattle.macho_text.specs.declared.stream.Output as output
+use Rattle.macho_text.proofs.Holding.{holds_same}
 use Rattle.macho_report.specs.Layout.{kind_text, is_image, image_slice_text, unread_slice_text, slice_text}
-use Rattle.macho_report.proofs.Holding.{holds_same}
 
 pub word_is : (image : List ℕ) (listed : FileTypeView) → file_type_of (file_type image) ≡ Some listed → listed.word ≡ kind_text image
 word_is image listed is = sym (ap (λ o. option_map_or (λ (t : FileTypeView). t.word) o []) is)

@@ -2,8 +2,8 @@
 use Rattle.std.specs.Prelude.{◌&&◌, ℕ, ◌==◌, List, [], ◌∷◌, codes, find, Option}
 use Rattle.std.specs.Option.{option_map_or}
 use Rattle.macho_fields.specs.declared.header.machine.TheConstants as machine
-use Rattle.macho_report.specs.Stream.{joined}
-use Rattle.macho_report.specs.Number.{prefixed_hex}
+use Rattle.macho_text.specs.Stream.{joined}
+use Rattle.macho_text.specs.Number.{prefixed_hex}
 
 -- an architecture with a name: its cputype, its cpusubtype without the capability bits, its name
 pub record NamedArch : Type 0 where

@@ -15,7 +15,7 @@ use Rattle.macho_image.specs.Command.{first_with_cmd}
 use Rattle.macho_image.specs.Entry.{entry_of}
 use Rattle.macho_image.specs.Library.{libraries, dylib_at}
 use Rattle.macho_image.specs.Single.{uuid_at}
-use Rattle.macho_report.specs.Stream.{joined}
+use Rattle.macho_text.specs.Stream.{joined}
 use Rattle.macho_report.specs.Arch.{arch_text}
 use Rattle.macho_report.specs.Line.{count_line, slice_line, uuid_line, build_line, segment_line, section_line, library_line, symbols_line, entry_line}
 

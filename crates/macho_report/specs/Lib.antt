@@ -1,9 +1,5 @@
-pub mod Stream
-pub mod Number
-pub mod Name
 pub mod Arch
 pub mod Line
-pub mod Writer
 pub mod Layout
 pub mod Text
 pub mod Judge

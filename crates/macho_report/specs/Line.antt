@@ -6,9 +6,9 @@ use Rattle.macho_fields.specs.Segment.{section_address, section_size, section_of
 use Rattle.macho_fields.specs.declared.header.loader.TheConstants as loader
 use Rattle.macho_fields.specs.declared.header.vm_prot.TheConstants as vm_prot
 use Rattle.macho_image.specs.Segment.{segment_name, section_name}
-use Rattle.macho_report.specs.Stream.{joined}
-use Rattle.macho_report.specs.Number.{prefixed_hex, byte_hex, upper_byte_hex, version_text}
-use Rattle.macho_report.specs.Name.{quoted}
+use Rattle.macho_text.specs.Stream.{joined}
+use Rattle.macho_text.specs.Number.{prefixed_hex, byte_hex, upper_byte_hex, version_text}
+use Rattle.macho_text.specs.Name.{quoted}
 
 -- the first line: how many slices there are
 abbrev pub count_line : ℕ → List ℕ

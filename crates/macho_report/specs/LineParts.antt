@@ -2,9 +2,9 @@
 use Rattle.std.specs.Prelude.{ℕ, ◌==◌, List, [], ◌∷◌, ◌++◌, codes, if◌then◌else◌}
 use Rattle.macho_fields.specs.declared.header.loader.TheConstants as loader
 use Rattle.macho_image.specs.Library.{DylibView}
+use Rattle.macho_text.specs.Number.{hex}
+use Rattle.macho_text.specs.Stream.{joined}
 use Rattle.macho_report.specs.Line.{library_word, library_line}
-use Rattle.macho_report.specs.Number.{hex}
-use Rattle.macho_report.specs.Stream.{joined}
 
 -- the line of a library as an image gives it, and nothing for the image itself
 abbrev pub linked_text : DylibView → List ℕ

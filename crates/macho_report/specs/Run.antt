@@ -2,16 +2,16 @@
 use Rattle.std.specs.Prelude.{◌≡◌, ◌⊎◌, ◌↔◌, ℕ, ◌+◌, ◌<◌, ◌≤◌, Bool, List, length, Option, IfSome, Result, IsErrOf, IsTrue, IfErr, IfOk, OnOk}
 use Rattle.std.specs.Io.KnownBytes.{IsAtEnd}
 use Rattle.macho_fields.specs.declared.rule.Break.{Break}
-use Rattle.macho_report.specs.Stream.{TookAtMost, Wrote, WrotePrefix}
+use Rattle.macho_text.specs.Stream.{TookAtMost, Wrote, WrotePrefix}
+use Rattle.macho_text.specs.declared.stream.Input as input
+use Rattle.macho_text.specs.declared.stream.Output as output
+use Rattle.macho_text.specs.declared.transfer.ReadFault.{ReadFault}
+use Rattle.macho_text.specs.declared.transfer.ReadFault.TheVariants as read
 use Rattle.macho_report.specs.Layout.{layout_with}
 use Rattle.macho_report.specs.Text.{break_text}
 use Rattle.macho_report.specs.declared.judge.Judge as judge
 use Rattle.macho_report.specs.declared.outcome.Outcome.{Outcome}
 use Rattle.macho_report.specs.declared.outcome.Outcome.TheVariants.{Accepted, Refused}
-use Rattle.macho_report.specs.declared.stream.Input as input
-use Rattle.macho_report.specs.declared.stream.Output as output
-use Rattle.macho_report.specs.declared.transfer.ReadFault.{ReadFault}
-use Rattle.macho_report.specs.declared.transfer.ReadFault.TheVariants as read
 use Rattle.macho_report.specs.declared.outcome.RunFault.{RunFault}
 use Rattle.macho_report.specs.declared.outcome.RunFault.TheVariants as fault
 

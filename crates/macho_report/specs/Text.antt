@@ -2,10 +2,10 @@
 use Rattle.std.specs.Prelude.{ℕ, List, [], ◌∷◌, codes}
 use Rattle.macho_fields.specs.RuleList.{name_of}
 use Rattle.macho_fields.specs.declared.rule.Break.{Break}
+use Rattle.macho_text.specs.Stream.{joined}
+use Rattle.macho_text.specs.Number.{prefixed_hex}
 use Rattle.macho_report.specs.declared.outcome.RunFault.{RunFault}
 use Rattle.macho_report.specs.declared.outcome.RunFault.TheVariants as fault
-use Rattle.macho_report.specs.Stream.{joined}
-use Rattle.macho_report.specs.Number.{prefixed_hex}
 
 -- a break: `refused: `, the rule's name, ` at ` and the place
 abbrev pub break_text : Break → List ℕ

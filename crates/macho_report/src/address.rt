@@ -1,17 +1,17 @@
 //! From an input to what is at an address of it.
 
 ghost use Rattle.std.specs.Prelude.{◌≡◌, ◌≢◌, ◌⊎◌, List, ℕ, Ok, IfOk, IfErr, IsErrOf, IsTrue};
+ghost use Rattle.macho_text.specs.Stream.{Wrote, WrotePrefix};
 ghost use Rattle.macho_report.specs.Run.{FailsRight, ReadsRight};
-ghost use Rattle.macho_report.specs.Stream.{Wrote, WrotePrefix};
 ghost use Rattle.macho_report.specs.Where.{IsWhere, WroteWhere, WroteWherePrefix};
 ghost use Rattle.macho_report.specs.declared.address.WhereOutcome.{WhereOutcome};
 
 use crate::judge::LayoutRules;
 use crate::lines::write_source;
 use crate::outcome::{RunFault, accept};
-use crate::stream::{Input, Output};
-use crate::transfer::read_all;
 use macho_rules::Mapping;
+use macho_text::transfer::read_all;
+use macho_text::{Input, Output};
 use std::alloc::Global;
 
 /// What a run found of an address.

@@ -4,40 +4,38 @@ ghost use Rattle.std.specs.Prelude.{◌≡◌, ◌+◌, ◌≤◌, [], ◌++◌,
 ghost use Rattle.std.specs.Option.{option_map, option_map_or};
 ghost use Rattle.macho_report.specs.Arch.{named_arch, numbers_text, arch_text};
 
-use crate::line::{Line, PLACES};
 use macho_fields::header::machine::{
     CPU_SUBTYPE_ARM64_ALL, CPU_SUBTYPE_ARM64E, CPU_SUBTYPE_X86_64_ALL, CPU_SUBTYPE_X86_64_H,
     CPU_TYPE_ARM64, CPU_TYPE_X86_64,
 };
+use macho_text::line::{Line, PLACES};
 
-impl Line {
-    // Puts the name of the architecture of a slice, a `cputype` and a `cpusubtype` without its
-    // capability bits. If it has no name, both numbers are put, as `0x7/0x3`. In an accepted file
-    // each slice has an architecture.
-    pub(crate) fn arch(&mut self, arch: Option<(u32, u32)>)
-        requires room { length self.old + 45 ≤ PLACES }
-        ensures text { self.new ≡ self.old ++ option_map_or arch_text arch [] }
-        ensures end { length self.new ≤ length self.old + 45 }
-    {
-        let Some(arch) = arch else {
-            return;
-        };
-        match arch_name(arch) {
-            Some(name) => self.bytes(name.as_bytes()),
-            None => self.arch_numbers(arch),
-        }
+// Puts the name of the architecture of a slice, a `cputype` and a `cpusubtype` without its
+// capability bits. If it has no name, both numbers are put, as `0x7/0x3`. In an accepted file
+// each slice has an architecture.
+pub(crate) fn put_arch(arch: Option<(u32, u32)>, line: &mut Line)
+    requires room { length line.old + 45 ≤ PLACES }
+    ensures text { line.new ≡ line.old ++ option_map_or arch_text arch [] }
+    ensures end { length line.new ≤ length line.old + 45 }
+{
+    let Some(arch) = arch else {
+        return;
+    };
+    match arch_name(arch) {
+        Some(name) => line.bytes(name.as_bytes()),
+        None => put_arch_numbers(arch, line),
     }
+}
 
-    // Puts both numbers of an architecture.
-    fn arch_numbers(&mut self, arch: (u32, u32))
-        requires room { length self.old + 45 ≤ PLACES }
-        ensures text { self.new ≡ self.old ++ numbers_text arch }
-        ensures end { length self.new ≤ length self.old + 45 }
-    {
-        self.hex(u64::from(arch.0));
-        self.text(b"/");
-        self.hex(u64::from(arch.1));
-    }
+// Puts both numbers of an architecture.
+fn put_arch_numbers(arch: (u32, u32), line: &mut Line)
+    requires room { length line.old + 45 ≤ PLACES }
+    ensures text { line.new ≡ line.old ++ numbers_text arch }
+    ensures end { length line.new ≤ length line.old + 45 }
+{
+    line.hex(u64::from(arch.0));
+    line.text(b"/");
+    line.hex(u64::from(arch.1));
 }
 
 // The name of an architecture.

@@ -5,13 +5,12 @@ ghost use Rattle.macho_fields.specs.First.{IsUnbroken, IsFirstBroken};
 ghost use Rattle.macho_fields.specs.Layers.{NothingBreaks};
 ghost use Rattle.macho_fields.specs.Rules.{BreaksImage};
 ghost use Rattle.macho_fields.specs.declared.rule.Break.{Break};
+ghost use Rattle.macho_text.specs.Writer.{PutsText};
 ghost use Rattle.macho_report.specs.Judge.{IsRefusalBy};
-ghost use Rattle.macho_report.specs.Writer.{PutsText};
 
-use crate::stream::Output;
-use crate::transfer::WriteFault;
 use macho_image::Image;
 use macho_rules::{Refusal, Verified, verify};
+use macho_text::{Output, WriteFault};
 use std::alloc::Global;
 
 /// Decides whether a file is accepted, and writes what the report says of an image after its layout.

@@ -9,24 +9,22 @@ ghost use Rattle.macho_fields.specs.Rules.{BreaksImage};
 ghost use Rattle.macho_fields.specs.Segment.{sections_in};
 ghost use Rattle.macho_fields.specs.Universal.{slices_of};
 ghost use Rattle.macho_image.specs.Library.{dylib_of};
-ghost use Rattle.macho_report.specs.Stream.{joined};
-ghost use Rattle.macho_report.specs.Writer.{PutsText, HoldsText};
+ghost use Rattle.macho_text.specs.Stream.{joined};
+ghost use Rattle.macho_text.specs.Writer.{PutsText, HoldsText};
 ghost use Rattle.macho_report.specs.LineParts.{linked_text};
 ghost use Rattle.macho_report.specs.Layout.{layout_text, layout_with, slice_text, image_slice_text, image_text, id_text, uuid_text, builds_text, segments_text, segment_text, libraries_text, symbols_text};
 ghost use Rattle.macho_report.specs.Line.{section_line};
 
 use crate::judge::{Judge, LayoutRules};
-use crate::line::Line;
 use crate::lines::{
     write_build, write_count, write_entry, write_library, write_section, write_segment,
     write_slice, write_symbols, write_uuid,
 };
-use crate::stream::Output;
-use crate::transfer::WriteFault;
 use macho_fat::Slice;
 use macho_fields::header::loader::LC_ID_DYLIB;
 use macho_image::{Dylib, Image, Segment};
 use macho_rules::Verified;
+use macho_text::{Line, Output, WriteFault};
 
 /// Writes the layout of an accepted file as text: how many slices it has, a line for each, and the
 /// parts of each slice that is read. It takes no memory, and does not flush.

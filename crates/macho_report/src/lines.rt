@@ -4,16 +4,15 @@ ghost use Rattle.std.specs.Prelude.{◌≡◌, [], ◌++◌, IsErr, IsTrue, Some
 ghost use Rattle.std.specs.Option.{option_map, option_map_or};
 ghost use Rattle.macho_fields.specs.Segment.{File};
 ghost use Rattle.macho_rules.specs.Source.{source_of};
-ghost use Rattle.macho_report.specs.Writer.{PutsText, HoldsText};
+ghost use Rattle.macho_text.specs.Writer.{PutsText, HoldsText};
 ghost use Rattle.macho_report.specs.Arch.{arch_text};
 ghost use Rattle.macho_report.specs.Line.{cdhash_line, contents_of, count_line, slice_line, uuid_line, build_line, segment_line, section_line, library_line, symbols_line, entry_line};
 ghost use Rattle.macho_report.specs.Text.{break_text, words_line};
 ghost use Rattle.macho_report.specs.Where.{where_text};
 ghost use Rattle.macho_report.specs.LineParts.{library_start};
 
-use crate::line::Line;
-use crate::stream::Output;
-use crate::transfer::{WriteFault, write_all};
+use crate::arch::put_arch;
+use crate::fields::{put_contents, put_extent, put_protection, put_uuid};
 use macho_fields::header::loader::{
     LC_ID_DYLIB, LC_LAZY_LOAD_DYLIB, LC_LOAD_DYLIB, LC_LOAD_UPWARD_DYLIB, LC_LOAD_WEAK_DYLIB,
     LC_REEXPORT_DYLIB,
@@ -21,6 +20,7 @@ use macho_fields::header::loader::{
 use macho_fields::{Break, Span};
 use macho_image::{Build, Dylib, Section, Segment};
 use macho_rules::Source;
+use macho_text::{Line, Output, WriteFault, write_all};
 
 /// Writes the line of a broken rule, as `refused: segment-file at 0x1e8`.
 pub fn write_break<W: Output>(broken: &Break, writer: &mut W) -> Result<(), WriteFault>
@@ -79,8 +79,8 @@ pub(crate) fn write_slice<W: Output>(
     line.text(b"slice ");
     line.decimal(index);
     line.text(b" ");
-    line.arch(arch);
-    line.extent(b" at 0x", span.start, span.len);
+    put_arch(arch, line);
+    put_extent(b" at 0x", span.start, span.len, line);
     line.text(b" ");
     line.word(kind.as_bytes(), writer)?;
     line.text(b"\n");
@@ -98,7 +98,7 @@ pub(crate) fn write_uuid<W: Output>(
 {
     line.begin(writer)?;
     line.text(b"  uuid ");
-    line.uuid(uuid);
+    put_uuid(uuid, line);
     line.text(b"\n");
     Ok(())
 }
@@ -135,10 +135,10 @@ pub(crate) fn write_segment<W: Output>(
     line.begin(writer)?;
     line.text(b"  segment ");
     line.name(segment.name(), writer)?;
-    line.extent(b" addr 0x", segment.vmaddr(), segment.vmsize());
-    line.extent(b" file 0x", segment.fileoff(), segment.filesize());
+    put_extent(b" addr 0x", segment.vmaddr(), segment.vmsize(), line);
+    put_extent(b" file 0x", segment.fileoff(), segment.filesize(), line);
     line.text(b" ");
-    line.protection(segment.initprot());
+    put_protection(segment.initprot(), line);
     line.text(b"\n");
     Ok(())
 }
@@ -155,9 +155,9 @@ pub(crate) fn write_section<W: Output>(
     line.begin(writer)?;
     line.text(b"    section ");
     line.name(section.name(), writer)?;
-    line.extent(b" addr 0x", section.addr(), section.size());
+    put_extent(b" addr 0x", section.addr(), section.size(), line);
     line.text(b" ");
-    line.contents(contents_of(section));
+    put_contents(contents_of(section), line);
     line.text(b"\n");
     Ok(())
 }

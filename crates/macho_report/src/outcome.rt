@@ -2,7 +2,7 @@
 
 ghost use Rattle.std.specs.Prelude.{◌≡◌, List, ℕ, IfOk, IfNone, IfSome};
 ghost use Rattle.macho_fields.specs.declared.rule.Break.{Break};
-ghost use Rattle.macho_report.specs.Stream.{Wrote, WrotePrefix};
+ghost use Rattle.macho_text.specs.Stream.{Wrote, WrotePrefix};
 ghost use Rattle.macho_report.specs.Text.{break_text, run_fault_reason};
 ghost use Rattle.macho_report.specs.Run.{FailsRight, IsReport, RunsRight, run_fault_of};
 ghost use Rattle.macho_report.specs.declared.outcome.Outcome.{Outcome};
@@ -11,9 +11,9 @@ ghost use Rattle.macho_report.specs.declared.outcome.RunFault.TheVariants as fau
 use crate::judge::{Judge, LayoutRules};
 use crate::layout::write_layout_with;
 use crate::lines::write_break;
-use crate::stream::{Input, Output};
-use crate::transfer::{ReadFault, WriteFault, read_all};
 use macho_rules::{Refusal, Verified};
+use macho_text::transfer::{ReadFault, read_all};
+use macho_text::{Input, Output, WriteFault};
 use std::alloc::{AllocError, Global};
 use std::fmt;
 use thiserror::Error;

@@ -7,10 +7,10 @@ ghost use Rattle.std.specs.Prelude.{IfOk};
 ghost use Rattle.macho_trials.specs.Verdict.{IsFirstOrNone};
 
 use macho_fields::{Break, Bytes, Order};
-use macho_report::FromRead;
-use macho_report::transfer::read_all;
 use macho_rules::{Refusal, verify};
 use macho_second::slow_first;
+use macho_text::FromRead;
+use macho_text::transfer::read_all;
 use std::alloc::{AllocError, Global};
 
 /// Judges the files of standard input. The status is 0 where all are judged, and otherwise 2.

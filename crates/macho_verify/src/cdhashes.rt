@@ -3,12 +3,13 @@
 ghost use Rattle.std.specs.Prelude.{◌≡◌, None};
 ghost use Rattle.macho_fields.specs.Layers.{NothingBreaks};
 ghost use Rattle.macho_fields.specs.Rules.{BreaksImage};
-ghost use Rattle.macho_report.specs.Writer.{PutsText};
+ghost use Rattle.macho_text.specs.Writer.{PutsText};
 ghost use Rattle.macho_verify.specs.Cdhashes.{cdhashes_text, type_word};
 
 use macho_image::Image;
-use macho_report::{Output, WriteFault, write_cdhash};
+use macho_report::write_cdhash;
 use macho_seals::{Cdhashes, Digest};
+use macho_text::{Output, WriteFault};
 
 /// Writes a line for each code directory of an image that breaks no rule of the layout, in the order of the
 /// index of its signature.

@@ -7,8 +7,9 @@ use crate::cdhashes::write_cdhashes;
 use macho_fields::Profile;
 use macho_image::Image;
 use macho_profiles::verify_by;
-use macho_report::{Judge, Output, WriteFault};
+use macho_report::Judge;
 use macho_rules::{Refusal, Verified};
+use macho_text::{Output, WriteFault};
 use std::alloc::Global;
 
 /// Accepts the files that break no rule of the profiles up to this one, as [`verify_by`] decides. By the

@@ -5,8 +5,9 @@ ghost use Rattle.macho_trials.specs.Status.{status_of};
 
 use macho_fat::FatFault;
 use macho_fields::Break;
-use macho_report::{RunFault, WriteFault};
+use macho_report::RunFault;
 use macho_rules::Refusal;
+use macho_text::WriteFault;
 use std::alloc::{AllocError, AllocFailed};
 use std::io;
 

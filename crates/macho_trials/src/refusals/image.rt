@@ -5,8 +5,9 @@ use crate::refusals::fault::Fault;
 use macho_fat::slices;
 use macho_fields::Bytes;
 use macho_image::Image;
-use macho_report::{FromWrite, write_layout};
+use macho_report::write_layout;
 use macho_rules::{Mapping, check_image, verify};
+use macho_text::FromWrite;
 use macho_verified::VerifiedImage;
 use std::io;
 

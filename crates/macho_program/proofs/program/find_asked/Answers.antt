@@ -2,10 +2,10 @@ use Rattle.std.proofs.Common.{◌≡◌, ◌∙◌, ℕ, List, Bool, true, false
 use Rattle.std.specs.Prelude.{⊤}
 use Rattle.std.specs.Str.{bytes_eq}
 use Rattle.std.proofs.lemmas.Slice.Eq.{bytes_eq-Decides}
+use Rattle.macho_text.specs.declared.stream.Input as input
+use Rattle.macho_text.specs.declared.stream.Output as output
+use Rattle.macho_text.specs.declared.stream.Flush as flush
 use Rattle.macho_report.specs.declared.judge.Judge as judge
-use Rattle.macho_report.specs.declared.stream.Input as input
-use Rattle.macho_report.specs.declared.stream.Output as output
-use Rattle.macho_report.specs.declared.stream.Flush as flush
 use Rattle.macho_program.specs.Program.{EndsRight, ShowsRight, IsOfStandardInput, WroteFound, WroteFoundPrefix}
 use Rattle.macho_program.specs.Asked.{Asked, asked_by, shows, asks}
 use Rattle.macho_program.specs.declared.task.Question.TheVariants as question

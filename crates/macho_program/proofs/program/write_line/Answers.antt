@@ -1,8 +1,8 @@
 use Rattle.std.proofs.Common.{Bool, true, false, ℕ, List, Option, Result, Ok, Err, length}
 use Rattle.std.proofs.Math.Seq.{take-length}
-use Rattle.macho_report.specs.Stream.{Wrote, WritesUnlessFailed}
-use Rattle.macho_report.specs.Writer.{PutsText}
-use Rattle.macho_report.specs.declared.stream.Output as output
+use Rattle.macho_text.specs.Stream.{Wrote, WritesUnlessFailed}
+use Rattle.macho_text.specs.Writer.{PutsText}
+use Rattle.macho_text.specs.declared.stream.Output as output
 use Rattle.macho_program.proofs.program.write_line.Goals as goal
 
 -- what was written whole is also a prefix

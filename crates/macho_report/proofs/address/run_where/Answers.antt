@@ -1,5 +1,5 @@
 use Rattle.std.proofs.Common.{◌≤◌, length, refl, inr, arith}
-use Rattle.macho_report.proofs.Faults.{at_fault, no_answer, no_fault}
+use Rattle.macho_text.proofs.Results.{at_fault, no_answer, no_fault}
 use Rattle.macho_report.proofs.Runs.{input_is, input_ok, reading_ends, reading_fails, reading_not_writing, write_or_unwritten}
 use Rattle.macho_report.proofs.address.run_where.Goals as goal
 

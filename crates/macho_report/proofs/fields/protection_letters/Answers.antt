@@ -1,5 +1,5 @@
 use Rattle.std.proofs.Common.{◌≡◌, ℕ, List, [], ◌∷◌, refl, sym}
-use Rattle.macho_report.specs.Stream.{joined}
+use Rattle.macho_text.specs.Stream.{joined}
 use Rattle.macho_report.proofs.fields.protection_letters.Goals as goal
 
 three : (a b d : ℕ) (x y z : List ℕ) → a ∷ [] ≡ x → b ∷ [] ≡ y → d ∷ [] ≡ z → a ∷ b ∷ d ∷ [] ≡ joined (x ∷ y ∷ z ∷ [])

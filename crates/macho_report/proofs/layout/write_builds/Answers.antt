@@ -1,7 +1,7 @@
 use Rattle.std.proofs.Common.{◌∙◌}
+use Rattle.macho_text.proofs.Loops.{texts_placed}
+use Rattle.macho_text.proofs.Holding.{holds_begin_as, holds_item, holds_item_fails, holds_items}
 use Rattle.macho_report.specs.Line.{build_line}
-use Rattle.macho_report.proofs.Loops.{texts_placed}
-use Rattle.macho_report.proofs.Holding.{holds_begin_as, holds_item, holds_item_fails, holds_items}
 use Rattle.macho_report.proofs.layout.write_builds.Goals as goal
 
 pub loop-build-init : goal.loop-build-init

@@ -1,8 +1,8 @@
 use Rattle.std.proofs.Common.{◌∷◌, ◌++◌, map}
 use Rattle.macho_fields.specs.Image.{commands_of}
+use Rattle.macho_text.proofs.Writers.{PutsPart}
 use Rattle.macho_report.specs.Layout.{builds_text}
 use Rattle.macho_report.specs.Line.{build_line}
-use Rattle.macho_report.proofs.Writers.{PutsPart}
 use Rattle.macho_report.proofs.layout.write_builds.Given as goal
 
 -- the lines of the items that are left are still to be written

@@ -1,7 +1,7 @@
 use Rattle.macho_image.specs.Library.{DylibView}
+use Rattle.macho_text.proofs.Holding.{holds_nothing, holds_same}
 use Rattle.macho_report.specs.Line.{library_line}
 use Rattle.macho_report.proofs.LineTexts.{found_nothing, found_text}
-use Rattle.macho_report.proofs.Holding.{holds_nothing, holds_same}
 use Rattle.macho_report.proofs.layout.write_id.Goals as goal
 
 pub returns-in-Some : goal.returns-in-Some

@@ -1,5 +1,5 @@
 use Rattle.macho_fields.specs.FileTypes.{file_type_view}
-use Rattle.macho_report.proofs.Holding.{holds_begin, holds_fails, holds_fault, holds_last, holds_next, holds_none}
+use Rattle.macho_text.proofs.Holding.{holds_begin, holds_fails, holds_fault, holds_last, holds_next, holds_none}
 use Rattle.macho_report.proofs.Slices.{same_arch, word_is}
 use Rattle.macho_report.proofs.layout.write_image_slice.Goals as goal
 

@@ -1,6 +1,6 @@
+use Rattle.macho_text.proofs.Holding.{holds_nothing, holds_same}
 use Rattle.macho_report.specs.Line.{uuid_line}
 use Rattle.macho_report.proofs.LineTexts.{found_nothing, found_text}
-use Rattle.macho_report.proofs.Holding.{holds_nothing, holds_same}
 use Rattle.macho_report.proofs.layout.write_image_uuid.Goals as goal
 
 pub returns-in-Some : goal.returns-in-Some

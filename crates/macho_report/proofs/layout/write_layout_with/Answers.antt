@@ -1,4 +1,4 @@
-use Rattle.macho_report.proofs.Writers.{puts_fails, puts_last, puts_next}
+use Rattle.macho_text.proofs.Writers.{puts_fails, puts_last, puts_next}
 use Rattle.macho_report.proofs.layout.write_layout_with.Goals as goal
 
 pub returns-in_err-write_count-clause-text : goal.returns-in_err-write_count-clause-text

@@ -2,10 +2,10 @@ use Rattle.std.proofs.Common.{◌∙◌, refl, ◌==◌}
 use Rattle.macho_fields.specs.Image.{command_cmd}
 use Rattle.macho_fields.specs.declared.header.loader.TheConstants as loader
 use Rattle.macho_image.specs.Library.{dylib_at}
+use Rattle.macho_text.proofs.Loops.{texts_unmarked}
+use Rattle.macho_text.proofs.Holding.{holds_begin_as, holds_item, holds_item_fails, holds_items}
 use Rattle.macho_report.specs.Layout.{library_text}
 use Rattle.macho_report.specs.LineParts.{linked_text}
-use Rattle.macho_report.proofs.Loops.{texts_unmarked}
-use Rattle.macho_report.proofs.Holding.{holds_begin_as, holds_item, holds_item_fails, holds_items}
 use Rattle.macho_report.proofs.layout.write_libraries.Goals as goal
 
 pub loop-library-init : goal.loop-library-init

@@ -1,8 +1,8 @@
 use Rattle.std.proofs.Common.{◌∷◌, ◌++◌, map}
 use Rattle.macho_fields.specs.Segment.{sections_in}
-use Rattle.macho_report.specs.Stream.{joined}
+use Rattle.macho_text.specs.Stream.{joined}
+use Rattle.macho_text.proofs.Writers.{PutsPart}
 use Rattle.macho_report.specs.Line.{section_line}
-use Rattle.macho_report.proofs.Writers.{PutsPart}
 use Rattle.macho_report.proofs.layout.write_sections.Given as goal
 
 -- the lines of the items that are left are still to be written

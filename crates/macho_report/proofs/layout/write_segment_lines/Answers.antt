@@ -1,4 +1,4 @@
-use Rattle.macho_report.proofs.Holding.{holds_begin, holds_fails, holds_last, holds_next}
+use Rattle.macho_text.proofs.Holding.{holds_begin, holds_fails, holds_last, holds_next}
 use Rattle.macho_report.proofs.layout.write_segment_lines.Goals as goal
 
 pub returns-in_err-write_segment : goal.returns-in_err-write_segment

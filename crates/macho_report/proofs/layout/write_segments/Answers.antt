@@ -1,7 +1,7 @@
 use Rattle.std.proofs.Common.{◌∙◌}
+use Rattle.macho_text.proofs.Loops.{texts_placed}
+use Rattle.macho_text.proofs.Holding.{holds_begin_as, holds_item, holds_item_fails, holds_items}
 use Rattle.macho_report.specs.Layout.{segment_text}
-use Rattle.macho_report.proofs.Loops.{texts_placed}
-use Rattle.macho_report.proofs.Holding.{holds_begin_as, holds_item, holds_item_fails, holds_items}
 use Rattle.macho_report.proofs.layout.write_segments.Goals as goal
 
 pub loop-segment-init : goal.loop-segment-init

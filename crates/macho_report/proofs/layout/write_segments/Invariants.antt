@@ -1,7 +1,7 @@
 use Rattle.std.proofs.Common.{◌∷◌, ◌++◌, map}
 use Rattle.macho_fields.specs.Image.{commands_of}
+use Rattle.macho_text.proofs.Writers.{PutsPart}
 use Rattle.macho_report.specs.Layout.{segment_text, segments_text}
-use Rattle.macho_report.proofs.Writers.{PutsPart}
 use Rattle.macho_report.proofs.layout.write_segments.Given as goal
 
 -- the lines of the items that are left are still to be written

@@ -1,5 +1,5 @@
 use Rattle.std.proofs.Common.{arith}
-use Rattle.macho_report.proofs.Holding.{holds_nothing}
+use Rattle.macho_text.proofs.Holding.{holds_nothing}
 use Rattle.macho_report.proofs.layout.write_symbol_count.Goals as goal
 
 pub returns-in-None : goal.returns-in-None

@@ -1,8 +1,8 @@
 use Rattle.std.proofs.Common.{[], ◌∷◌, lit≤}
 use Rattle.std.specs.Prelude.{codes}
-use Rattle.macho_report.proofs.Puts.{from_start, put_next, put_last, ended}
-use Rattle.macho_report.proofs.Holding.{line_fails, line_written}
-use Rattle.macho_report.proofs.Room.{end_fits, fits, room_after, room_after_text}
+use Rattle.macho_text.proofs.Puts.{from_start, put_next, put_last, ended}
+use Rattle.macho_text.proofs.Holding.{line_fails, line_written}
+use Rattle.macho_text.proofs.Room.{end_fits, fits, room_after, room_after_text}
 use Rattle.macho_report.proofs.lines.write_break.Goals as goal
 
 pub returns-in_err-word-clause-text : goal.returns-in_err-word-clause-text

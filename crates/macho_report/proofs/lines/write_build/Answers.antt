@@ -1,7 +1,7 @@
 use Rattle.std.proofs.Common.{lit≤}
-use Rattle.macho_report.proofs.Holding.{holds_more, holds_more_fails, holds_texts}
-use Rattle.macho_report.proofs.Puts.{put_next, put_last}
-use Rattle.macho_report.proofs.Room.{fits, room_after, room_after_text}
+use Rattle.macho_text.proofs.Holding.{holds_more, holds_more_fails, holds_texts}
+use Rattle.macho_text.proofs.Puts.{put_next, put_last}
+use Rattle.macho_text.proofs.Room.{fits, room_after, room_after_text}
 use Rattle.macho_report.proofs.lines.write_build.Goals as goal
 
 pub returns-in_err-begin : goal.returns-in_err-begin

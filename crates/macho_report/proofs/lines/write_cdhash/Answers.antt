@@ -1,7 +1,7 @@
 use Rattle.std.proofs.Common.{[], ◌∷◌}
 use Rattle.std.specs.Prelude.{codes}
-use Rattle.macho_report.proofs.Puts.{from_start, put_next, put_last, ended}
-use Rattle.macho_report.proofs.Holding.{line_fails, line_written}
+use Rattle.macho_text.proofs.Puts.{from_start, put_next, put_last, ended}
+use Rattle.macho_text.proofs.Holding.{line_fails, line_written}
 use Rattle.macho_report.proofs.lines.write_cdhash.Goals as goal
 
 pub returns-in_err-word : goal.returns-in_err-word

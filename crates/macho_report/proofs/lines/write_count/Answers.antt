@@ -1,5 +1,5 @@
-use Rattle.macho_report.proofs.Writers.{puts_same}
-use Rattle.macho_report.proofs.Puts.{from_start, put_next, ended}
+use Rattle.macho_text.proofs.Writers.{puts_same}
+use Rattle.macho_text.proofs.Puts.{from_start, put_next, ended}
 use Rattle.macho_report.proofs.lines.write_count.Goals as goal
 
 pub returns-clause-text : goal.returns-clause-text

@@ -1,6 +1,6 @@
 use Rattle.std.proofs.Common.{◌≡◌, None, rules}
-use Rattle.macho_report.proofs.Holding.{holds_all, holds_more, holds_more_fails, holds_texts, holds_then}
-use Rattle.macho_report.proofs.Puts.{put_next, put_last}
+use Rattle.macho_text.proofs.Holding.{holds_all, holds_more, holds_more_fails, holds_texts, holds_then}
+use Rattle.macho_text.proofs.Puts.{put_next, put_last}
 use Rattle.macho_report.proofs.lines.write_entry.Goals as goal
 
 pub returns-in_err-begin : goal.returns-in_err-begin

@@ -1,9 +1,9 @@
 use Rattle.std.proofs.Common.{[], ◌∷◌, lit≤}
+use Rattle.macho_text.proofs.Puts.{put_next, put_last}
+use Rattle.macho_text.proofs.Holding.{line_kept, line_lost, holds_more_fails, holds_same}
+use Rattle.macho_text.proofs.Room.{fits, room_after, room_after_text}
 use Rattle.macho_report.specs.LineParts.{library_start}
 use Rattle.macho_report.proofs.LineTexts.{library_begins}
-use Rattle.macho_report.proofs.Puts.{put_next, put_last}
-use Rattle.macho_report.proofs.Holding.{line_kept, line_lost, holds_more_fails, holds_same}
-use Rattle.macho_report.proofs.Room.{fits, room_after, room_after_text}
 use Rattle.macho_report.proofs.lines.write_library.Goals as goal
 
 pub returns-in_err-begin : goal.returns-in_err-begin

@@ -1,5 +1,5 @@
-use Rattle.macho_report.proofs.Holding.{holds_more, holds_more_fails, holds_texts}
-use Rattle.macho_report.proofs.Puts.{put_next, put_last}
+use Rattle.macho_text.proofs.Holding.{holds_more, holds_more_fails, holds_texts}
+use Rattle.macho_text.proofs.Puts.{put_next, put_last}
 use Rattle.macho_report.proofs.lines.write_symbols.Goals as goal
 
 pub returns-in_err-begin : goal.returns-in_err-begin

@@ -1,6 +1,6 @@
 use Rattle.std.proofs.Common.{[], ◌∷◌}
 use Rattle.std.specs.Prelude.{codes}
-use Rattle.macho_report.proofs.Holding.{held_fails, held_puts, holds_begin, holds_next}
+use Rattle.macho_text.proofs.Holding.{held_fails, held_puts, holds_begin, holds_next}
 use Rattle.macho_report.proofs.lines.write_words.Goals as goal
 
 pub returns-in_err-word : goal.returns-in_err-word

@@ -1,5 +1,6 @@
 use Rattle.std.proofs.Common.{refl}
-use Rattle.macho_report.proofs.Faults.{at_fault, fails_not, fails_to_write, lacks_memory, refused_for}
+use Rattle.macho_text.proofs.Results.{at_fault}
+use Rattle.macho_report.proofs.Faults.{fails_not, fails_to_write, lacks_memory, refused_for}
 use Rattle.macho_report.proofs.outcome.accept.Goals as goal
 
 pub returns-in-Ok : goal.returns-in-Ok

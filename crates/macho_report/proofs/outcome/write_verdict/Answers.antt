@@ -1,7 +1,8 @@
 use Rattle.std.proofs.Common.{refl}
+use Rattle.macho_text.proofs.Results.{at_fault}
 use Rattle.macho_report.specs.Text.{break_text}
 use Rattle.macho_report.specs.declared.outcome.Outcome.TheVariants.{Accepted, Refused}
-use Rattle.macho_report.proofs.Faults.{at_fault, fails_as, fails_not, fails_to_write}
+use Rattle.macho_report.proofs.Faults.{fails_as, fails_not, fails_to_write}
 use Rattle.macho_report.proofs.outcome.write_verdict.Goals as goal
 
 pub returns-in_err-verified : goal.returns-in_err-verified

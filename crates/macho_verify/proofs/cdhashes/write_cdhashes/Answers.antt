@@ -1,6 +1,6 @@
 use Rattle.std.proofs.Common.{map, ap, ◌∙◌}
-use Rattle.macho_report.specs.Stream.{joined}
-use Rattle.macho_report.proofs.Writers.{items_begin, item_put, item_fails, items_end}
+use Rattle.macho_text.specs.Stream.{joined}
+use Rattle.macho_text.proofs.Writers.{items_begin, item_put, item_fails, items_end}
 use Rattle.macho_verify.specs.Cdhashes.{digest_line}
 use Rattle.macho_verify.proofs.cdhashes.write_cdhashes.Goals as goal
 

@@ -1,5 +1,5 @@
 use Rattle.std.proofs.Common.{map}
-use Rattle.macho_report.proofs.Writers.{PutsPart}
+use Rattle.macho_text.proofs.Writers.{PutsPart}
 use Rattle.macho_verify.specs.Cdhashes.{cdhashes_text, digest_line}
 use Rattle.macho_verify.proofs.cdhashes.write_cdhashes.Given as goal
 

@@ -1,5 +1,0 @@
-use Rattle.macho_report.proofs.Puts.{put_next, put_last}
-use Rattle.macho_report.proofs.line.Line.hex.Goals as goal
-
-pub returns-clause-text : goal.returns-clause-text
-returns-clause-text c = put_next _ _ _ _ _ c.text.ensures (put_next _ _ _ _ _ c.bare_hex.ensures.text (put_last _))

@@ -1,8 +1,0 @@
-use Rattle.std.proofs.Common.{refl}
-use Rattle.macho_report.specs.Stream.{joined}
-use Rattle.macho_report.proofs.Texts.{escaped_other}
-use Rattle.macho_report.proofs.name.escape.Goals as goal
-
-pub returns : goal.returns
-unfolding joined
-returns c = rw (escaped_other c.args.byte c.requires, c.byte_digits.ensures) refl

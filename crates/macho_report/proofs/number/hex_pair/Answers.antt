@@ -1,6 +1,0 @@
-use Rattle.macho_report.proofs.Digits.{hex_pair, hex_pairs}
-use Rattle.macho_report.proofs.number.hex_pair.Goals as goal
-
-pub returns : goal.returns
-unfolding hex_pairs
-returns c = hex_pair c.args.value c.requires

@@ -1,0 +1,9 @@
+pub mod StreamLemmas
+pub mod Writers
+pub mod Digits
+pub mod Holding
+pub mod Puts
+pub mod Texts
+pub mod Loops
+pub mod Results
+pub mod Room

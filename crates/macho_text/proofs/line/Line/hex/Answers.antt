@@ -1,0 +1,5 @@
+use Rattle.macho_text.proofs.Puts.{put_next, put_last}
+use Rattle.macho_text.proofs.line.Line.hex.Goals as goal
+
+pub returns-clause-text : goal.returns-clause-text
+returns-clause-text c = put_next _ _ _ _ _ c.text.ensures (put_next _ _ _ _ _ c.bare_hex.ensures.text (put_last _))

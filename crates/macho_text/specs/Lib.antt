@@ -1,0 +1,4 @@
+pub mod Stream
+pub mod Number
+pub mod Name
+pub mod Writer
