@@ -1,13 +1,28 @@
-"""The mutants of the crates: wrong bodies that the prover must refuse. The gate tries crates/*/must-fail/*.edit. The
-others are in mutants.md there: a heading with the name of each, and the lines of its edit."""
+"""The mutants of the crates: wrong bodies that the prover must refuse. They are in crates/*/must-fail/mutants.md: a
+heading with the name of each, and the lines of its edit. The gate tries those with "(gate)" after the name."""
 
 from __future__ import annotations
 
 import re
-from pathlib import Path
 from typing import Iterator, NamedTuple
 
 from .calling import TOP
+
+GATE = " (gate)"
+FUNCTION = re.compile(r"^( *)(?:pub(?:\(\w+\))? )?(?:const )?(?:unsafe )?(?:extern \"C\" )?fn (\w+)", re.MULTILINE)
+BLOCK = re.compile(r"^(?:unsafe )?(?:impl(?:<.*?>)? (?:.* for )?|trait )([A-Z]\w*).*?^}", re.MULTILINE | re.DOTALL)
+
+
+class Function(NamedTuple):
+    """A function by its place: the path of its module in the crate, its type or trait if it is a method, its name."""
+    module: str
+    owner: str
+    name: str
+
+    @property
+    def path(self) -> str:
+        """What the prover is asked for: all methods of a type have one path."""
+        return "::".join(part for part in (self.module, self.owner or self.name) if part)
 
 
 class Mutant(NamedTuple):
@@ -17,61 +32,59 @@ class Mutant(NamedTuple):
     # The text of the edit, as the kit reads it.
     text: str
 
-    @property
-    def edit(self) -> str:
-        """The path of its edit in a copy of the repository."""
-        return f"crates/{self.crate}/must-fail/{self.name}.edit"
-
     def __str__(self) -> str:
         return f"{self.crate}/{self.name}"
 
+    def parts(self) -> tuple[str, str, str]:
+        """The file in the crate, the old text and the new one."""
+        file, old, new = (line.partition(": ")[2] for line in self.text.splitlines())
+        return file, old, new
+
     def is_one_change(self) -> bool:
         """Whether it changes one text, which stands once in its file."""
-        lines = [line.partition(": ") for line in self.text.splitlines()]
-        if [name for name, _, _ in lines] != ["file", "old", "new"]:
+        if [line.partition(": ")[0] for line in self.text.splitlines()] != ["file", "old", "new"]:
             return False
-        file, old, new = (text for _, _, text in lines)
+        file, old, new = self.parts()
         return old != new and (TOP / "crates" / self.crate / file).read_text(encoding="utf-8").count(old) == 1
 
+    def function(self) -> Function | None:
+        """The function that it changes, or None where that is a constant, a macro or another item."""
+        file, old, _ = self.parts()
+        source = (TOP / "crates" / self.crate / file).read_text(encoding="utf-8")
+        place = source.index(old)
+        found = [match for match in FUNCTION.finditer(source, 0, place + len(old))]
+        if not found or re.search(f"^{found[-1][1]}}}", source[found[-1].end():place], re.MULTILINE):
+            return None
+        module = "::".join(part for part in file[len("src/"):-len(".rt")].split("/") if part not in ("lib", "main"))
+        owner = [block[1] for block in BLOCK.finditer(source) if block.start() < place < block.end()]
+        return Function(module, owner[-1] if owner and found[-1][1] else "", found[-1][2])
 
-def list_of(crate: str) -> Path:
-    return TOP / f"crates/{crate}/must-fail/mutants.md"
 
-
-def listed_in(text: str) -> Iterator[tuple[str, str]]:
-    """The names in a list, each with the text of its edit."""
+def listed_in(crate: str) -> Iterator[Mutant]:
+    """The mutants of a crate."""
+    text = (TOP / f"crates/{crate}/must-fail/mutants.md").read_text(encoding="utf-8")
     for name, lines in re.findall(r"^## (.*)\n((?: {4}.*\n)*)", text, re.MULTILINE):
-        yield name, re.sub("^ {4}", "", lines, flags=re.MULTILINE)
+        is_gated = name.endswith(GATE)
+        text = re.sub("^ {4}", "", lines, flags=re.MULTILINE)
+        yield Mutant(crate, name[:-len(GATE)] if is_gated else name, is_gated, text)
 
 
 def read_mutants() -> list[Mutant]:
     """All mutants, by crate and name."""
-    mutants = [Mutant(path.parts[-3], path.stem, True, path.read_text(encoding="utf-8"))
-               for path in TOP.glob("crates/*/must-fail/*.edit")]
-    for path in TOP.glob("crates/*/must-fail/mutants.md"):
-        crate = path.parts[-3]
-        mutants += [Mutant(crate, name, False, text) for name, text in listed_in(path.read_text(encoding="utf-8"))]
-    return sorted(mutants)
+    return sorted(mutant for path in TOP.glob("crates/*/must-fail/mutants.md") for mutant in listed_in(path.parts[-3]))
 
 
-def write_list(crate: str, listed: dict[str, str]) -> None:
+def write_list(crate: str, mutants: list[Mutant]) -> None:
     """Writes the list of a crate, by name."""
-    entries = [f"## {name}\n" + re.sub("^", "    ", text.rstrip("\n"), flags=re.MULTILINE) + "\n"
-               for name, text in sorted(listed.items())]
-    heading = (f"# Mutants of {crate} that the gate leaves out\n\n`tests/mutants {crate}` tries them. "
-               f"`tests/mutants --gate {crate}/NAME` moves one to the gate.\n")
-    list_of(crate).write_text("\n".join([heading, *entries]), encoding="utf-8")
+    entries = [f"## {mutant.name}{GATE * mutant.is_gated}\n" +
+               re.sub("^", "    ", mutant.text.rstrip("\n"), flags=re.MULTILINE) + "\n" for mutant in sorted(mutants)]
+    heading = (f"# Mutants of {crate}\n\n`tests/mutants --all {crate}` tries them. `tests/mutants --gate {crate}/NAME` "
+               f"marks one for the gate.\n")
+    (TOP / f"crates/{crate}/must-fail/mutants.md").write_text("\n".join([heading, *entries]), encoding="utf-8")
 
 
-def move(mutants: list[Mutant], to_gate: bool) -> None:
-    """Moves mutants from the lists of their crates to files of their own, which the gate tries, or back."""
-    for crate in {mutant.crate for mutant in mutants}:
-        path = list_of(crate)
-        listed = dict(listed_in(path.read_text(encoding="utf-8"))) if path.is_file() else {}
-        for mutant in mutants:
-            if mutant.crate == crate and to_gate:
-                (TOP / mutant.edit).write_text(listed.pop(mutant.name), encoding="utf-8")
-            elif mutant.crate == crate:
-                (TOP / mutant.edit).unlink()
-                listed[mutant.name] = mutant.text
-        write_list(crate, listed)
+def mark(names: set[str], is_gated: bool) -> None:
+    """Has the gate try the mutants with these names, or leave them out."""
+    mutants = [mutant._replace(is_gated=is_gated) if str(mutant) in names else mutant for mutant in read_mutants()]
+    for crate in {name.partition("/")[0] for name in names}:
+        write_list(crate, [mutant for mutant in mutants if mutant.crate == crate])

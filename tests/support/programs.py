@@ -39,6 +39,11 @@ def why_outdated(name: str) -> str:
     return with_record('is_current || echo "${reason:-it cannot be read}"', name).text
 
 
+def is_kept(crate: str) -> bool:
+    """Whether packaging/prove has kept what was proved of this crate, and of those below it."""
+    return call(TOP / "packaging/prove", "--kept", "rt", crate).status == 0
+
+
 def library_folder() -> Path:
     """The folder of the library that is tested."""
     return Path(os.environ.get("KESVUOT_LIB_DIR") or TOP / "build/lib").resolve()

@@ -18,9 +18,9 @@ from .processes import STARTING, end_with_threads
 from .programs import build_trials
 
 # What takes long comes first. Those of the library wait until it is built. The others run the programs, but
-# tests/floor, which runs one of its own, tests/dyld, tests/counts and tests/agreed, which run none, and tests/command,
-# which has stubs.
-PROGRAM_SCRIPTS = ("program floor refusals oracle strict linked unambiguous other_readers sealed claims dyld sizes"
+# tests/mutants, which has the prover, tests/floor, which runs one of its own, tests/dyld, tests/counts and tests/agreed,
+# which run none, and tests/command, which has stubs.
+PROGRAM_SCRIPTS = ("mutants program floor refusals oracle strict linked unambiguous other_readers sealed claims dyld sizes"
                    " limits vectors packed_vectors edited counts agreed".split())
 LIBRARY_SCRIPTS = ("cost rebuild library python cluster tool stores policies archives map explain slots code exports examples"
                    " rust go fuzz recipes install").split()
@@ -184,8 +184,7 @@ class Gate:
         elif not has_tool("cc") or not has_tool("objcopy"):
             self.skip("the library", "there is no cc, or no objcopy")
         else:
-            words = ["--proved"] if self.is_proved else []
-            if run_lines([TOP / "packaging/library", *words], self.terminal.print):
+            if run_lines([TOP / "packaging/library"], self.terminal.print):
                 self.fault("the library", "it was not built")
 
     def fault(self, case: str, why: str) -> None:
