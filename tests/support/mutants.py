@@ -10,19 +10,20 @@ from .calling import TOP
 
 GATE = " (gate)"
 FUNCTION = re.compile(r"^( *)(?:pub(?:\(\w+\))? )?(?:const )?(?:unsafe )?(?:extern \"C\" )?fn (\w+)", re.MULTILINE)
-BLOCK = re.compile(r"^(?:unsafe )?(?:impl(?:<.*?>)? (?:.* for )?|trait )([A-Z]\w*).*?^}", re.MULTILINE | re.DOTALL)
+BLOCK = re.compile(r"^(?:unsafe )?(?:impl(?:<[^\n]*?>)? (?:([^\n]*?) for )?|(?:pub )?trait )([A-Z]\w*).*?^}",
+                   re.MULTILINE | re.DOTALL)
 
 
 class Function(NamedTuple):
-    """A function by its place: the path of its module in the crate, its type or trait if it is a method, its name."""
+    """A function: the path of its module in the crate, what the prover calls the block of its methods, and its name."""
     module: str
     owner: str
     name: str
 
     @property
     def path(self) -> str:
-        """What the prover is asked for: all methods of a type have one path."""
-        return "::".join(part for part in (self.module, self.owner or self.name) if part)
+        """How the name ends by which the prover knows it."""
+        return "::".join(part for part in (self.owner or self.module, self.name) if part)
 
 
 class Mutant(NamedTuple):
@@ -56,7 +57,8 @@ class Mutant(NamedTuple):
         if not found or re.search(f"^{found[-1][1]}}}", source[found[-1].end():place], re.MULTILINE):
             return None
         module = "::".join(part for part in file[len("src/"):-len(".rt")].split("/") if part not in ("lib", "main"))
-        owner = [block[1] for block in BLOCK.finditer(source) if block.start() < place < block.end()]
+        owner = [block[2] + re.sub(r"\w+::|'\w+|\W", "", block[1] or "") for block in BLOCK.finditer(source)
+                 if block.start() < place < block.end()]
         return Function(module, owner[-1] if owner and found[-1][1] else "", found[-1][2])
 
 
