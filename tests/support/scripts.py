@@ -17,14 +17,14 @@ from .calling import TOP, Word, has_tool
 from .processes import STARTING, end_with_threads
 from .programs import build_trials
 
-# What takes long comes first. Those of the library wait until it is built. The others run the programs, but
-# tests/mutants, which has the prover, tests/floor, which runs one of its own, tests/dyld, tests/counts and tests/agreed,
-# which run none, and tests/command, which has stubs.
-PROGRAM_SCRIPTS = ("mutants program floor refusals oracle strict linked unambiguous other_readers sealed claims dyld sizes"
-                   " limits vectors packed_vectors edited counts agreed".split())
-LIBRARY_SCRIPTS = ("cost rebuild library python cluster tool stores policies archives map explain slots code exports examples"
-                   " rust go fuzz recipes install").split()
-SCRIPTS = ["command", *PROGRAM_SCRIPTS, *LIBRARY_SCRIPTS]
+# What takes long comes first. The early ones run stubs, a program of their own or none, so they run beside the proofs.
+# The next ones run the programs, and tests/mutants the prover. Those of the library wait until it is built.
+EARLY_SCRIPTS = "command floor dyld counts agreed".split()
+PROGRAM_SCRIPTS = ("mutants program refusals oracle strict linked unambiguous other_readers sealed claims sizes limits"
+                   " vectors packed_vectors edited").split()
+LIBRARY_SCRIPTS = ("cost rebuild library python cluster tool stores policies archives map explain slots code exports"
+                   " examples rust go fuzz recipes install").split()
+SCRIPTS = [*EARLY_SCRIPTS, *PROGRAM_SCRIPTS, *LIBRARY_SCRIPTS]
 CLOSING_LINE = re.compile(r"(\d+) passed, (\d+) failed")
 
 
@@ -198,7 +198,7 @@ class Gate:
             self.fault("macho_trials", why)
 
     def run(self) -> int:
-        command = self.begin(["command"])
+        early = self.begin(EARLY_SCRIPTS)
         if self.is_proved:
             self.prove()
         elif any(script.name in ("refusals", "vectors") for script in self.scripts):
@@ -208,7 +208,7 @@ class Gate:
         begun = self.begin(PROGRAM_SCRIPTS)
         if library:
             library.result()
-        for script, ran in [*begun, *self.begin(LIBRARY_SCRIPTS), *command]:
+        for script, ran in [*early, *begun, *self.begin(LIBRARY_SCRIPTS)]:
             self.show(script, ran)
         return self.close()
 

@@ -1,6 +1,6 @@
 //! From an input to its report: what was found, and the text of it.
 
-ghost use Rattle.std.specs.Prelude.{◌≡◌, List, ℕ, IfOk, IfNone, IfSome};
+ghost use Rattle.std.specs.Prelude.{◌≡◌, ◌++◌, List, ℕ, IfOk, IfNone, IfSome, Some, codes};
 ghost use Rattle.macho_fields.specs.declared.rule.Break.{Break};
 ghost use Rattle.macho_text.specs.Stream.{Wrote, WrotePrefix};
 ghost use Rattle.macho_report.specs.Text.{break_text, run_fault_reason};
@@ -50,6 +50,8 @@ pub enum RunFault {
 }
 
 impl fmt::Display for RunFault {
+    ghost output = { λ fault. Some (codes "macho-check: " ++ run_fault_reason fault) };
+
     fn fmt<W: fmt::Write>(&self, f: &mut fmt::Formatter<W>) -> fmt::Result {
         write!(f, "macho-check: {}", self.reason())
     }
