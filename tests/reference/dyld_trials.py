@@ -27,7 +27,7 @@ from fixtures.notation import read_count, read_vectors
 from readers import plain_dyld, plain_reader
 from support.programs import REAL
 
-from . import HIDDEN
+from . import HIDDEN, ORACLE
 from . import load as load_module
 
 BATCH = 200
@@ -226,12 +226,25 @@ def find_breach(words, vectors):
             return "mutant %d of seed %d" % (number, work.seed)
     return None
 
+def changed_rule(path):
+    """What the rule would be called whose function is changed in a copy of the oracle."""
+    sources = (Path(file).read_text(encoding="utf-8").splitlines() for file in (path, ORACLE))
+    function = None
+    for line, before in zip(*sources):
+        function = re.match(r"def (\w+)", line) or function
+        if line != before:
+            break
+    return function[1].replace("_", "-") if function else None
+
 def find_breaches(words):
-    """Says the first breach by each of the oracles. Vectors that should be refused come first: most mistakes show there."""
+    """Says the first breach by each of the oracles. Most show in vectors that the changed rule should refuse, or else in
+    others that should be refused, so these come first."""
     global oracle  # pylint: disable=global-statement
-    vectors = sorted(read_vectors(profile.vectors), key=lambda vector: vector.wanted == "accepted")
+    vectors = read_vectors(profile.vectors)
     for path in words.oracles:
         oracle = load_module(path)
+        rule = changed_rule(path)
+        vectors.sort(key=lambda it, rule=rule: (it.wanted == "accepted", rule_of(it.wanted) != rule))
         print("the first breach: %s" % find_breach(words, vectors), file=sys.stderr)
 
 def set_work(words, files):
