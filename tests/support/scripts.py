@@ -11,7 +11,8 @@ import threading
 import time
 from concurrent.futures import Future, ThreadPoolExecutor
 from dataclasses import dataclass
-from typing import Callable, NoReturn, Sequence
+from pathlib import Path
+from typing import Callable, NamedTuple, NoReturn, Sequence
 
 from .calling import TOP, Word, has_tool
 from .processes import STARTING, end_with_threads
@@ -39,6 +40,27 @@ class Counts:
 
     def __str__(self) -> str:
         return f"{self.passed} passed, {self.failed} failed"
+
+
+class Work(NamedTuple):
+    """What the processors of this process have done since the start of the machine, in hundredths of a second."""
+
+    done: int
+    # A virtual machine was ready to work, and its host ran something else. (proc(5): steal)
+    stolen: int
+
+    @classmethod
+    def now(cls) -> Work:
+        usable = {f"cpu{number}" for number in os.sched_getaffinity(0)}
+        rows = [line.split() for line in Path("/proc/stat").read_text("ascii").splitlines()]
+        user, nice, system, _, _, irq, softirq, steal = (
+            sum(int(row[column]) for row in rows if row[0] in usable) for column in range(1, 9))
+        return cls(user + nice + system + irq + softirq, steal)
+
+    def stolen_since(self, before: Work) -> int:
+        """How many percent of the time that the machine could have worked its host took for others."""
+        done, stolen = self.done - before.done, self.stolen - before.stolen
+        return 100 * stolen // max(done + stolen, 1)
 
 
 class Terminal:
@@ -157,6 +179,7 @@ class Gate:
         self.scripts = [Script(name, self.terminal) for name in names]
         self.counts = Counts()
         self.skips = 0
+        self.work = Work.now()
         self.pool = ThreadPoolExecutor(len(os.sched_getaffinity(0)))
 
     def show(self, script: Script, ran: Future) -> None:
@@ -214,8 +237,9 @@ class Gate:
 
     def close(self) -> int:
         self.terminal.close()
-        seconds = self.terminal.seconds()
-        print(f"that took {seconds // 60} min {seconds % 60} s on {len(os.sched_getaffinity(0))} processors")
+        seconds, stolen = self.terminal.seconds(), Work.now().stolen_since(self.work)
+        print(f"that took {seconds // 60} min {seconds % 60} s on {len(os.sched_getaffinity(0))} processors" +
+              (f", of whose time the host took {stolen} percent for others" if stolen else ""))
         print(self.counts, flush=True)
         return 0 if not self.counts.failed and self.counts.passed + self.skips else 1
 
