@@ -86,7 +86,7 @@ def rules(table: Table) -> List[str]:
 
 
 def rule_names(table: Table) -> List[str]:
-    return [f'            Rule::{camel(rule.name)} => concat!("{rule.name}", $end),' for rule in table("rules")]
+    return [f'            Rule::{camel(rule.name)} => "{rule.name}\\0",' for rule in table("rules")]
 
 
 def rule_list(table: Table) -> List[str]:
@@ -108,7 +108,7 @@ def profiles(table: Table) -> List[str]:
 
 
 def profile_names(table: Table) -> List[str]:
-    return [f'            Profile::{camel(it.name)} => concat!("{it.name}", $end),' for it in table("profiles")]
+    return [f'            Profile::{camel(it.name)} => "{it.name}\\0",' for it in table("profiles")]
 
 
 def profile_list(table: Table) -> List[str]:

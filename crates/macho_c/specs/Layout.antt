@@ -2,7 +2,7 @@
 use Rattle.std.specs.Prelude.{◌≡◌, ℕ, ◌⊎◌, List, ◌++◌, length, take, drop}
 use Rattle.macho_fields.specs.First.{IsFirstBroken, IsUnbroken}
 use Rattle.macho_fields.specs.declared.rule.Break.{Break}
-use Rattle.macho_report.specs.Layout.{layout_text}
+use Rattle.macho_lines.specs.Layout.{layout_text}
 use Rattle.macho_rules.specs.Verdict.{FileTakesMemory}
 use Rattle.macho_rules.specs.declared.refusal.Refusal.{Refusal}
 use Rattle.macho_rules.specs.declared.refusal.Refusal.TheVariants as refusal

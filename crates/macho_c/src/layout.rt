@@ -2,7 +2,7 @@
 
 ghost use Rattle.std.specs.Prelude.{◌≡◌, Some, MatchResult};
 ghost use Rattle.macho_fields.specs.First.{IsUnbroken};
-ghost use Rattle.macho_report.specs.Layout.{layout_text};
+ghost use Rattle.macho_lines.specs.Layout.{layout_text};
 ghost use Rattle.macho_c.specs.Layout.{IsLayout, IsLayoutRefusal, begun_with};
 
 use crate::status::{NO_MEMORY, OK, REFUSED};

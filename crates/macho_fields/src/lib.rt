@@ -18,4 +18,4 @@ pub use load_command::{
     unique_index, unlisted_tables,
 };
 pub use macho_spans::{Insert, Sharing, Span, SpanList, SpanOrder, Spans, SpansByStart, table_end};
-pub use rule::{Break, Profile, Rule};
+pub use rule::{Break, LayoutRules, Profile, Rule};

@@ -1,6 +1,6 @@
 //! The rules of all profiles, in one list, and where one is broken. A place is an offset in bytes.
 
-ghost use Rattle.std.specs.Prelude.{◌≡◌, ◌≢◌, ◌++◌, ◌∷◌, [], IfNone, IfOk, IfSome, find, ◌==◌, IsErrAnd, IsOk, MatchOption, Some};
+ghost use Rattle.std.specs.Prelude.{◌≡◌, ◌≢◌, ◌++◌, ◌∷◌, [], ℕ, List, IfNone, IfOk, IfSome, find, ◌==◌, IsErrAnd, IsOk, MatchOption, Some};
 ghost use Rattle.std.specs.Fmt.{styled_text};
 ghost use Rattle.std.specs.Fmt.InlineText.{inline_text};
 ghost use Rattle.macho_fields.specs.RuleList.{name_of, rule_number, profile_of, text_of};
@@ -37,21 +37,6 @@ pub enum Profile {
     // registry: end
 }
 
-// The name of a profile with what comes after it, as `name_before` of a rule.
-macro_rules! profile_name_before {
-    ($profile:expr, $end:literal) => {
-        match $profile {
-            // registry: names of profiles
-            Profile::Layout => concat!("layout", $end),
-            Profile::Strict => concat!("strict", $end),
-            Profile::Linked => concat!("linked", $end),
-            Profile::Unambiguous => concat!("unambiguous", $end),
-            Profile::Sealed => concat!("sealed", $end),
-            // registry: end
-        }
-    };
-}
-
 impl Profile {
     /// All profiles, in the order of judgment.
     pub const ALL: &'static [Profile] = &[
@@ -65,17 +50,25 @@ impl Profile {
     ];
 
     /// The name of the profile, in lower case.
-    pub const fn name(self) -> &'static str
+    pub fn name(self) -> &'static str
         ensures { result.now ≡ profile_name self }
     {
-        profile_name_before!(self, "")
+        without_zero(self.name_with_zero())
     }
 
     /// The name of the profile and a zero byte, as C reads it.
     pub const fn name_with_zero(self) -> &'static str
         ensures { result.now ≡ profile_name self ++ 0 ∷ [] }
     {
-        profile_name_before!(self, "\0")
+        match self {
+            // registry: names of profiles
+            Profile::Layout => "layout\0",
+            Profile::Strict => "strict\0",
+            Profile::Linked => "linked\0",
+            Profile::Unambiguous => "unambiguous\0",
+            Profile::Sealed => "sealed\0",
+            // registry: end
+        }
     }
 
     /// The number of the profile, which never changes.
@@ -106,12 +99,16 @@ impl Profile {
     }
 }
 
+/// The rules of [`Profile::Layout`] alone, as a program is asked to judge by them.
+#[derive(Clone, Copy)]
+pub struct LayoutRules;
+
 /// A rule, in the order of judgment: profile after profile, and in each the rules of the file before
 /// the rules of an image. A rule is broken at a place, which is an offset in bytes.
 ///
 /// Each has a number that never changes. A rule that is added takes the next free number, wherever it
 /// stands.
-#[derive(Clone, Copy, Debug, PartialEq, Eq)]
+#[derive(Clone, Copy, PartialEq, Eq)]
 pub enum Rule {
     // registry: rules
     /// The file begins with the magic number of no format that is read.
@@ -340,123 +337,6 @@ pub enum Rule {
     // registry: end
 }
 
-// The name of a rule with what comes after it, so that one list serves every reader of names.
-macro_rules! name_before {
-    ($rule:expr, $end:literal) => {
-        match $rule {
-            // registry: names of rules
-            Rule::Magic => concat!("magic", $end),
-            Rule::FatTruncated => concat!("fat-truncated", $end),
-            Rule::FatSliceOutside => concat!("fat-slice-outside", $end),
-            Rule::FatSliceInTable => concat!("fat-slice-in-table", $end),
-            Rule::FatAlign => concat!("fat-align", $end),
-            Rule::FatOverlap => concat!("fat-overlap", $end),
-            Rule::FatDuplicate => concat!("fat-duplicate", $end),
-            Rule::FatSliceMagic => concat!("fat-slice-magic", $end),
-            Rule::FatEmpty => concat!("fat-empty", $end),
-            Rule::HeaderTruncated => concat!("header-truncated", $end),
-            Rule::ArchMismatch => concat!("arch-mismatch", $end),
-            Rule::FileType => concat!("file-type", $end),
-            Rule::CommandsOutside => concat!("commands-outside", $end),
-            Rule::CommandWalk => concat!("command-walk", $end),
-            Rule::CommandShort => concat!("command-short", $end),
-            Rule::CommandRepeated => concat!("command-repeated", $end),
-            Rule::DylibId => concat!("dylib-id", $end),
-            Rule::Name => concat!("name", $end),
-            Rule::SegmentAddress => concat!("segment-address", $end),
-            Rule::SegmentSize => concat!("segment-size", $end),
-            Rule::SegmentFile => concat!("segment-file", $end),
-            Rule::SegmentOverlap => concat!("segment-overlap", $end),
-            Rule::SectionAddress => concat!("section-address", $end),
-            Rule::SectionFile => concat!("section-file", $end),
-            Rule::SectionRelocs => concat!("section-relocs", $end),
-            Rule::TableRange => concat!("table-range", $end),
-            Rule::SymbolGroup => concat!("symbol-group", $end),
-            Rule::SymbolName => concat!("symbol-name", $end),
-            Rule::SymbolSection => concat!("symbol-section", $end),
-            Rule::IndirectIndex => concat!("indirect-index", $end),
-            Rule::Entry => concat!("entry", $end),
-            Rule::FatStrayByte => concat!("fat-stray-byte", $end),
-            Rule::CommandsEnd => concat!("commands-end", $end),
-            Rule::HeaderSegment => concat!("header-segment", $end),
-            Rule::SegmentFileOverlap => concat!("segment-file-overlap", $end),
-            Rule::ElementOverlap => concat!("element-overlap", $end),
-            Rule::StrayByte => concat!("stray-byte", $end),
-            Rule::EncryptedRange => concat!("encrypted-range", $end),
-            Rule::CommandSlack => concat!("command-slack", $end),
-            Rule::UnclaimedByte => concat!("unclaimed-byte", $end),
-            Rule::TableRepeated => concat!("table-repeated", $end),
-            Rule::FunctionVariants => concat!("function-variants", $end),
-            Rule::TableHome => concat!("table-home", $end),
-            Rule::HeaderHome => concat!("header-home", $end),
-            Rule::RebaseOpcode => concat!("rebase-opcode", $end),
-            Rule::RebaseSlot => concat!("rebase-slot", $end),
-            Rule::RebaseTotal => concat!("rebase-total", $end),
-            Rule::BindOpcode => concat!("bind-opcode", $end),
-            Rule::BindLibrary => concat!("bind-library", $end),
-            Rule::BindSymbol => concat!("bind-symbol", $end),
-            Rule::BindSlot => concat!("bind-slot", $end),
-            Rule::BindTotal => concat!("bind-total", $end),
-            Rule::BindNames => concat!("bind-names", $end),
-            Rule::ChainHeader => concat!("chain-header", $end),
-            Rule::ChainStarts => concat!("chain-starts", $end),
-            Rule::ChainImports => concat!("chain-imports", $end),
-            Rule::ChainTotal => concat!("chain-total", $end),
-            Rule::ChainLibrary => concat!("chain-library", $end),
-            Rule::ChainSlot => concat!("chain-slot", $end),
-            Rule::ChainBind => concat!("chain-bind", $end),
-            Rule::ExportNode => concat!("export-node", $end),
-            Rule::ExportTotal => concat!("export-total", $end),
-            Rule::ExportTerminal => concat!("export-terminal", $end),
-            Rule::ExportLibrary => concat!("export-library", $end),
-            Rule::ExportAddress => concat!("export-address", $end),
-            Rule::FunctionNumber => concat!("function-number", $end),
-            Rule::FunctionStart => concat!("function-start", $end),
-            Rule::DataInCode => concat!("data-in-code", $end),
-            Rule::InitOffset => concat!("init-offset", $end),
-            Rule::SignatureBlob => concat!("signature-blob", $end),
-            Rule::SignatureDirectory => concat!("signature-directory", $end),
-            Rule::SignatureWhole => concat!("signature-whole", $end),
-            Rule::SymbolLibrary => concat!("symbol-library", $end),
-            Rule::SymbolValue => concat!("symbol-value", $end),
-            Rule::SymbolIndirect => concat!("symbol-indirect", $end),
-            Rule::IndirectRange => concat!("indirect-range", $end),
-            Rule::ObsoleteTable => concat!("obsolete-table", $end),
-            Rule::Relocation => concat!("relocation", $end),
-            Rule::Thread => concat!("thread", $end),
-            Rule::CommandContent => concat!("command-content", $end),
-            Rule::FatCount => concat!("fat-count", $end),
-            Rule::FatHeader => concat!("fat-header", $end),
-            Rule::FatPage => concat!("fat-page", $end),
-            Rule::CommandKnown => concat!("command-known", $end),
-            Rule::CommandOnce => concat!("command-once", $end),
-            Rule::SegmentName => concat!("segment-name", $end),
-            Rule::SegmentPage => concat!("segment-page", $end),
-            Rule::SegmentProtection => concat!("segment-protection", $end),
-            Rule::BytesEncrypted => concat!("bytes-encrypted", $end),
-            Rule::NumberShift => concat!("number-shift", $end),
-            Rule::SectionName => concat!("section-name", $end),
-            Rule::SectionAlone => concat!("section-alone", $end),
-            Rule::EntryOne => concat!("entry-one", $end),
-            Rule::BindOnce => concat!("bind-once", $end),
-            Rule::ExportEdge => concat!("export-edge", $end),
-            Rule::SymbolKind => concat!("symbol-kind", $end),
-            Rule::SymbolTotal => concat!("symbol-total", $end),
-            Rule::ExportSymbol => concat!("export-symbol", $end),
-            Rule::IndirectName => concat!("indirect-name", $end),
-            Rule::ImportLibrary => concat!("import-library", $end),
-            Rule::SignatureSlot => concat!("signature-slot", $end),
-            Rule::DirectoryAgree => concat!("directory-agree", $end),
-            Rule::SignatureMissing => concat!("signature-missing", $end),
-            Rule::SignatureExecutable => concat!("signature-executable", $end),
-            Rule::DirectoryRepeated => concat!("directory-repeated", $end),
-            Rule::SignatureSlack => concat!("signature-slack", $end),
-            Rule::SignatureHash => concat!("signature-hash", $end),
-            // registry: end
-        }
-    };
-}
-
 impl Rule {
     /// All rules, in the order of judgment.
     pub const ALL: &'static [Rule] = &[
@@ -572,17 +452,127 @@ impl Rule {
     ];
 
     /// The name of the rule in reports, in lower case.
-    pub const fn name(self) -> &'static str
+    pub fn name(self) -> &'static str
         ensures { result.now ≡ name_of self }
     {
-        name_before!(self, "")
+        without_zero(self.name_with_zero())
     }
 
     /// The name of the rule and a zero byte, as C reads it.
     pub const fn name_with_zero(self) -> &'static str
         ensures { result.now ≡ name_of self ++ 0 ∷ [] }
     {
-        name_before!(self, "\0")
+        match self {
+            // registry: names of rules
+            Rule::Magic => "magic\0",
+            Rule::FatTruncated => "fat-truncated\0",
+            Rule::FatSliceOutside => "fat-slice-outside\0",
+            Rule::FatSliceInTable => "fat-slice-in-table\0",
+            Rule::FatAlign => "fat-align\0",
+            Rule::FatOverlap => "fat-overlap\0",
+            Rule::FatDuplicate => "fat-duplicate\0",
+            Rule::FatSliceMagic => "fat-slice-magic\0",
+            Rule::FatEmpty => "fat-empty\0",
+            Rule::HeaderTruncated => "header-truncated\0",
+            Rule::ArchMismatch => "arch-mismatch\0",
+            Rule::FileType => "file-type\0",
+            Rule::CommandsOutside => "commands-outside\0",
+            Rule::CommandWalk => "command-walk\0",
+            Rule::CommandShort => "command-short\0",
+            Rule::CommandRepeated => "command-repeated\0",
+            Rule::DylibId => "dylib-id\0",
+            Rule::Name => "name\0",
+            Rule::SegmentAddress => "segment-address\0",
+            Rule::SegmentSize => "segment-size\0",
+            Rule::SegmentFile => "segment-file\0",
+            Rule::SegmentOverlap => "segment-overlap\0",
+            Rule::SectionAddress => "section-address\0",
+            Rule::SectionFile => "section-file\0",
+            Rule::SectionRelocs => "section-relocs\0",
+            Rule::TableRange => "table-range\0",
+            Rule::SymbolGroup => "symbol-group\0",
+            Rule::SymbolName => "symbol-name\0",
+            Rule::SymbolSection => "symbol-section\0",
+            Rule::IndirectIndex => "indirect-index\0",
+            Rule::Entry => "entry\0",
+            Rule::FatStrayByte => "fat-stray-byte\0",
+            Rule::CommandsEnd => "commands-end\0",
+            Rule::HeaderSegment => "header-segment\0",
+            Rule::SegmentFileOverlap => "segment-file-overlap\0",
+            Rule::ElementOverlap => "element-overlap\0",
+            Rule::StrayByte => "stray-byte\0",
+            Rule::EncryptedRange => "encrypted-range\0",
+            Rule::CommandSlack => "command-slack\0",
+            Rule::UnclaimedByte => "unclaimed-byte\0",
+            Rule::TableRepeated => "table-repeated\0",
+            Rule::FunctionVariants => "function-variants\0",
+            Rule::TableHome => "table-home\0",
+            Rule::HeaderHome => "header-home\0",
+            Rule::RebaseOpcode => "rebase-opcode\0",
+            Rule::RebaseSlot => "rebase-slot\0",
+            Rule::RebaseTotal => "rebase-total\0",
+            Rule::BindOpcode => "bind-opcode\0",
+            Rule::BindLibrary => "bind-library\0",
+            Rule::BindSymbol => "bind-symbol\0",
+            Rule::BindSlot => "bind-slot\0",
+            Rule::BindTotal => "bind-total\0",
+            Rule::BindNames => "bind-names\0",
+            Rule::ChainHeader => "chain-header\0",
+            Rule::ChainStarts => "chain-starts\0",
+            Rule::ChainImports => "chain-imports\0",
+            Rule::ChainTotal => "chain-total\0",
+            Rule::ChainLibrary => "chain-library\0",
+            Rule::ChainSlot => "chain-slot\0",
+            Rule::ChainBind => "chain-bind\0",
+            Rule::ExportNode => "export-node\0",
+            Rule::ExportTotal => "export-total\0",
+            Rule::ExportTerminal => "export-terminal\0",
+            Rule::ExportLibrary => "export-library\0",
+            Rule::ExportAddress => "export-address\0",
+            Rule::FunctionNumber => "function-number\0",
+            Rule::FunctionStart => "function-start\0",
+            Rule::DataInCode => "data-in-code\0",
+            Rule::InitOffset => "init-offset\0",
+            Rule::SignatureBlob => "signature-blob\0",
+            Rule::SignatureDirectory => "signature-directory\0",
+            Rule::SignatureWhole => "signature-whole\0",
+            Rule::SymbolLibrary => "symbol-library\0",
+            Rule::SymbolValue => "symbol-value\0",
+            Rule::SymbolIndirect => "symbol-indirect\0",
+            Rule::IndirectRange => "indirect-range\0",
+            Rule::ObsoleteTable => "obsolete-table\0",
+            Rule::Relocation => "relocation\0",
+            Rule::Thread => "thread\0",
+            Rule::CommandContent => "command-content\0",
+            Rule::FatCount => "fat-count\0",
+            Rule::FatHeader => "fat-header\0",
+            Rule::FatPage => "fat-page\0",
+            Rule::CommandKnown => "command-known\0",
+            Rule::CommandOnce => "command-once\0",
+            Rule::SegmentName => "segment-name\0",
+            Rule::SegmentPage => "segment-page\0",
+            Rule::SegmentProtection => "segment-protection\0",
+            Rule::BytesEncrypted => "bytes-encrypted\0",
+            Rule::NumberShift => "number-shift\0",
+            Rule::SectionName => "section-name\0",
+            Rule::SectionAlone => "section-alone\0",
+            Rule::EntryOne => "entry-one\0",
+            Rule::BindOnce => "bind-once\0",
+            Rule::ExportEdge => "export-edge\0",
+            Rule::SymbolKind => "symbol-kind\0",
+            Rule::SymbolTotal => "symbol-total\0",
+            Rule::ExportSymbol => "export-symbol\0",
+            Rule::IndirectName => "indirect-name\0",
+            Rule::ImportLibrary => "import-library\0",
+            Rule::SignatureSlot => "signature-slot\0",
+            Rule::DirectoryAgree => "directory-agree\0",
+            Rule::SignatureMissing => "signature-missing\0",
+            Rule::SignatureExecutable => "signature-executable\0",
+            Rule::DirectoryRepeated => "directory-repeated\0",
+            Rule::SignatureSlack => "signature-slack\0",
+            Rule::SignatureHash => "signature-hash\0",
+            // registry: end
+        }
     }
 
     /// The number of the rule, which never changes.
@@ -739,6 +729,12 @@ impl Rule {
     }
 }
 
+impl fmt::Debug for Rule {
+    fn fmt<W: fmt::Write>(&self, f: &mut fmt::Formatter<W>) -> fmt::Result {
+        f.write_str(self.name())
+    }
+}
+
 impl fmt::Display for Rule {
     ghost output = { λ rule. Some (name_of rule) };
 
@@ -747,6 +743,13 @@ impl fmt::Display for Rule {
     fn fmt<W: fmt::Write>(&self, f: &mut fmt::Formatter<W>) -> fmt::Result {
         f.pad(self.name())
     }
+}
+
+// A name without the zero byte that ends it.
+fn without_zero(name: &'static str) -> &'static str
+    ensures { (text : List ℕ) → name.now ≡ text ++ 0 ∷ [] → result.now ≡ text }
+{
+    name.strip_suffix('\0').unwrap_or(name)
 }
 
 /// A broken rule, and the place at which it is broken: an offset in bytes from the start of the

@@ -1,3 +1,1 @@
-pub mod Numbers
-pub mod Asked
 pub mod Writes

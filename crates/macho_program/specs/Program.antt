@@ -12,11 +12,11 @@ use Rattle.macho_report.specs.Where.{WroteWhere, WroteWherePrefix}
 use Rattle.macho_report.specs.declared.address.WhereOutcome.TheVariants.{NoImage}
 use Rattle.macho_report.specs.declared.judge.Judge as judge
 use Rattle.macho_report.specs.declared.outcome.RunFault.TheVariants as run
-use Rattle.macho_program.specs.Asked.{Asked, shows, asks, asked_by}
-use Rattle.macho_program.specs.declared.task.Question.TheVariants as question
-use Rattle.macho_program.specs.declared.task.Task.{Task}
-use Rattle.macho_program.specs.declared.words.WordFault.{WordFault}
-use Rattle.macho_program.specs.declared.words.WordFault.TheVariants as words
+use Rattle.macho_words.specs.Asked.{Asked, shows, asks, asked_by}
+use Rattle.macho_words.specs.declared.task.Question.TheVariants as question
+use Rattle.macho_words.specs.declared.task.Task.{Task}
+use Rattle.macho_words.specs.declared.words.WordFault.{WordFault}
+use Rattle.macho_words.specs.declared.words.WordFault.TheVariants as words
 use Rattle.macho_program.specs.declared.program.Found.{Found}
 use Rattle.macho_program.specs.declared.program.Found.TheVariants as kind
 use Rattle.macho_program.specs.declared.program.ProgramFault.{ProgramFault}

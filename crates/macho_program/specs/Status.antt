@@ -10,7 +10,7 @@ use Rattle.macho_program.specs.declared.program.Found.{Found}
 use Rattle.macho_program.specs.declared.program.Found.TheVariants as found
 use Rattle.macho_program.specs.declared.program.ProgramFault.{ProgramFault}
 use Rattle.macho_program.specs.declared.program.ProgramFault.TheVariants as program
-use Rattle.macho_program.specs.declared.words.WordFault.TheVariants as words
+use Rattle.macho_words.specs.declared.words.WordFault.TheVariants as words
 
 -- the status for a fault of a run
 abbrev pub fault_status_of : RunFault → ℕ

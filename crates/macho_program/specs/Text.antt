@@ -2,10 +2,11 @@
 use Rattle.std.specs.Prelude.{◌≡◌, ℕ, List, Option, Some, None, Result, Ok, Err, codes}
 use Rattle.macho_text.specs.Stream.{WritesUnlessFailed}
 use Rattle.macho_text.specs.declared.stream.Output as output
-use Rattle.macho_report.specs.Text.{run_fault_reason, words_line}
+use Rattle.macho_lines.specs.Text.{words_line}
+use Rattle.macho_report.specs.Text.{run_fault_reason}
 use Rattle.macho_report.specs.declared.address.WhereOutcome.TheVariants.{NoImage}
-use Rattle.macho_program.specs.declared.words.WordFault.{WordFault}
-use Rattle.macho_program.specs.declared.words.WordFault.TheVariants as words
+use Rattle.macho_words.specs.declared.words.WordFault.{WordFault}
+use Rattle.macho_words.specs.declared.words.WordFault.TheVariants as words
 use Rattle.macho_program.specs.declared.program.Found.{Found}
 use Rattle.macho_program.specs.declared.program.Found.TheVariants as found
 use Rattle.macho_program.specs.declared.program.ProgramFault.{ProgramFault}

@@ -4,18 +4,18 @@
 ghost use Rattle.std.specs.Prelude.{◌≡◌, ⊤, ℕ, List, Ok, Err};
 ghost use Rattle.macho_text.specs.Stream.{WritesUnlessFailed};
 ghost use Rattle.macho_report.specs.declared.outcome.RunFault.TheVariants as fault;
-ghost use Rattle.macho_report.specs.Text.{words_line};
-ghost use Rattle.macho_program.specs.Asked.{asks};
+ghost use Rattle.macho_lines.specs.Text.{words_line};
+ghost use Rattle.macho_words.specs.Asked.{asks};
 ghost use Rattle.macho_program.specs.Program.{AnswersWords, EndsRight, ShowsRight, IsOfStandardInput, input_of, request_of};
 ghost use Rattle.macho_program.specs.Text.{SaysLine, end_line};
 ghost use Rattle.macho_program.specs.declared.program.ProgramFault.TheVariants as ends;
 
 use crate::files::Open;
-use crate::task::{Question, Task};
 use crate::tools::Tool;
-use crate::words::{BAD_NUMBER, STANDARD_INPUT, WordFault};
-use macho_report::{Judge, Outcome, RunFault, WhereOutcome, run_where, run_with, write_words};
+use macho_lines::write_words;
+use macho_report::{Judge, Outcome, RunFault, WhereOutcome, run_where, run_with};
 use macho_text::{Flush, FromRead, Input, Output, write_all};
+use macho_words::{BAD_NUMBER, Question, STANDARD_INPUT, Task, WordFault};
 use std::alloc::Global;
 use std::convert::AsStr;
 use thiserror::Error;

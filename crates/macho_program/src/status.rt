@@ -5,8 +5,8 @@ ghost use Rattle.std.specs.Process.{exit_status};
 ghost use Rattle.macho_program.specs.Status.{check_status_of, exit_of, fault_status_of, where_status_of};
 
 use crate::program::{Found, ProgramFault};
-use crate::words::WordFault;
 use macho_report::{Outcome, RunFault, WhereOutcome};
+use macho_words::WordFault;
 use std::process::ExitCode;
 
 /// The file is accepted, or the line of what is at the address was written.

@@ -1,14 +1,14 @@
 //! What differs between the programs: their names, their words, and who judges for them.
 
 ghost use Rattle.std.specs.Prelude.{◌≡◌, ℕ, List, Result, codes, map};
-ghost use Rattle.macho_program.specs.Asked.{Asked, Answers};
+ghost use Rattle.macho_words.specs.Asked.{Asked, Answers};
 ghost use Rattle.macho_program.specs.Text.{check_or_where_usage};
-ghost use Rattle.macho_program.specs.Words.{asked_of};
-ghost use Rattle.macho_program.specs.declared.words.WordFault.{WordFault};
+ghost use Rattle.macho_words.specs.Words.{asked_of};
+ghost use Rattle.macho_words.specs.declared.words.WordFault.{WordFault};
 
-use crate::task::Task;
-use crate::words::{CHECK_OR_WHERE, WordFault, parse_words};
-use macho_report::{Judge, LayoutRules};
+use macho_fields::LayoutRules;
+use macho_report::Judge;
+use macho_words::{CHECK_OR_WHERE, Task, WordFault, parse_words};
 use std::alloc::Global;
 use std::convert::AsStr;
 

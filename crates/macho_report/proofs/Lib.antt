@@ -1,4 +1,3 @@
-pub mod LineTexts
 pub mod Slices
 pub mod Where
 pub mod Faults

@@ -11,7 +11,7 @@ use Rattle.macho_fields.specs.Image.{file_type}
 use Rattle.macho_text.specs.Writer.{HoldsText}
 use Rattle.macho_text.specs.declared.stream.Output as output
 use Rattle.macho_text.proofs.Holding.{holds_same}
-use Rattle.macho_report.specs.Layout.{kind_text, is_image, image_slice_text, unread_slice_text, slice_text}
+use Rattle.macho_lines.specs.Layout.{kind_text, is_image, image_slice_text, unread_slice_text, slice_text}
 
 pub word_is : (image : List ℕ) (listed : FileTypeView) → file_type_of (file_type image) ≡ Some listed → listed.word ≡ kind_text image
 word_is image listed is = sym (ap (λ o. option_map_or (λ (t : FileTypeView). t.word) o []) is)

@@ -1,8 +1,4 @@
-pub mod Arch
-pub mod Line
-pub mod Layout
 pub mod Text
 pub mod Judge
 pub mod Run
 pub mod Where
-pub mod LineParts

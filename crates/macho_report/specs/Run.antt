@@ -7,8 +7,8 @@ use Rattle.macho_text.specs.declared.stream.Input as input
 use Rattle.macho_text.specs.declared.stream.Output as output
 use Rattle.macho_text.specs.declared.transfer.ReadFault.{ReadFault}
 use Rattle.macho_text.specs.declared.transfer.ReadFault.TheVariants as read
-use Rattle.macho_report.specs.Layout.{layout_with}
-use Rattle.macho_report.specs.Text.{break_text}
+use Rattle.macho_lines.specs.Layout.{layout_with}
+use Rattle.macho_lines.specs.Text.{break_text}
 use Rattle.macho_report.specs.declared.judge.Judge as judge
 use Rattle.macho_report.specs.declared.outcome.Outcome.{Outcome}
 use Rattle.macho_report.specs.declared.outcome.Outcome.TheVariants.{Accepted, Refused}

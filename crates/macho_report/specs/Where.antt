@@ -6,7 +6,7 @@ use Rattle.macho_fields.specs.Universal.{slices_of, slice_bytes, HasImage}
 use Rattle.macho_fields.specs.declared.rule.Break.{Break}
 use Rattle.macho_text.specs.Stream.{Wrote, WrotePrefix, joined}
 use Rattle.macho_text.specs.Number.{prefixed_hex}
-use Rattle.macho_report.specs.Text.{break_text}
+use Rattle.macho_lines.specs.Text.{break_text}
 use Rattle.macho_report.specs.declared.address.WhereOutcome.{WhereOutcome}
 use Rattle.macho_report.specs.declared.address.WhereOutcome.TheVariants.{Told, Refused, NoImage}
 

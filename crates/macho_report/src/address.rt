@@ -1,17 +1,20 @@
 //! From an input to what is at an address of it.
 
-ghost use Rattle.std.specs.Prelude.{◌≡◌, ◌≢◌, ◌⊎◌, List, ℕ, Ok, IfOk, IfErr, IsErrOf, IsTrue};
+ghost use Rattle.std.specs.Prelude.{◌≡◌, ◌≢◌, ◌⊎◌, List, ℕ, Ok, IfOk, IfErr, IsErrOf, IsTrue, Some};
+ghost use Rattle.std.specs.Option.{option_map};
+ghost use Rattle.macho_fields.specs.Segment.{File};
+ghost use Rattle.macho_rules.specs.Source.{source_of};
 ghost use Rattle.macho_text.specs.Stream.{Wrote, WrotePrefix};
+ghost use Rattle.macho_text.specs.Writer.{PutsText};
 ghost use Rattle.macho_report.specs.Run.{FailsRight, ReadsRight};
-ghost use Rattle.macho_report.specs.Where.{IsWhere, WroteWhere, WroteWherePrefix};
+ghost use Rattle.macho_report.specs.Where.{IsWhere, WroteWhere, WroteWherePrefix, where_text};
 ghost use Rattle.macho_report.specs.declared.address.WhereOutcome.{WhereOutcome};
 
-use crate::judge::LayoutRules;
-use crate::lines::write_source;
 use crate::outcome::{RunFault, accept};
-use macho_rules::Mapping;
+use macho_fields::LayoutRules;
+use macho_rules::{Mapping, Source};
 use macho_text::transfer::read_all;
-use macho_text::{Input, Output};
+use macho_text::{Input, Line, Output, WriteFault, write_all};
 use std::alloc::Global;
 
 /// What a run found of an address.
@@ -81,4 +84,27 @@ fn write_where<W: Output>(
     };
     write_source(mapping.source(addr), writer)?;
     Ok(WhereOutcome::Told)
+}
+
+// Writes the line of what is at an address: a place of the slice, a zero, or nothing.
+fn write_source<W: Output>(source: Option<Source>, writer: &mut W) -> Result<(), WriteFault>
+    ensures { PutsText W.Output writer.old writer.new result
+        (where_text (option_map source_of source)) }
+{
+    match source {
+        Some(Source::File(place)) => write_place(place, writer),
+        Some(Source::Zero) => write_all(b"zero\n", writer),
+        None => write_all(b"unmapped\n", writer),
+    }
+}
+
+// Writes the line of a place of the slice.
+fn write_place<W: Output>(place: u64, writer: &mut W) -> Result<(), WriteFault>
+    ensures { PutsText W.Output writer.old writer.new result
+        (where_text (Some (File place))) }
+{
+    let mut line = Line::new();
+    line.text(b"file ");
+    line.hex(place);
+    line.write(writer)
 }

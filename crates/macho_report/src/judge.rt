@@ -8,6 +8,7 @@ ghost use Rattle.macho_fields.specs.declared.rule.Break.{Break};
 ghost use Rattle.macho_text.specs.Writer.{PutsText};
 ghost use Rattle.macho_report.specs.Judge.{IsRefusalBy};
 
+use macho_fields::LayoutRules;
 use macho_image::Image;
 use macho_rules::{Refusal, Verified, verify};
 use macho_text::{Output, WriteFault};
@@ -37,9 +38,6 @@ pub trait Judge {
 }
 
 /// Accepts the files that break no rule of the layout, as [`verify`] decides.
-#[derive(Clone, Copy, Debug, PartialEq, Eq)]
-pub struct LayoutRules;
-
 impl Judge for LayoutRules {
     ghost accepts = { λ _. IsUnbroken };
 

@@ -3,17 +3,19 @@
 ghost use Rattle.std.specs.Prelude.{◌≡◌, ◌++◌, List, ℕ, IfOk, IfNone, IfSome, Some, codes};
 ghost use Rattle.macho_fields.specs.declared.rule.Break.{Break};
 ghost use Rattle.macho_text.specs.Stream.{Wrote, WrotePrefix};
-ghost use Rattle.macho_report.specs.Text.{break_text, run_fault_reason};
+ghost use Rattle.macho_lines.specs.Text.{break_text};
+ghost use Rattle.macho_report.specs.Text.{run_fault_reason};
 ghost use Rattle.macho_report.specs.Run.{FailsRight, IsReport, RunsRight, run_fault_of};
 ghost use Rattle.macho_report.specs.declared.outcome.Outcome.{Outcome};
 ghost use Rattle.macho_report.specs.declared.outcome.RunFault.TheVariants as fault;
 
-use crate::judge::{Judge, LayoutRules};
+use crate::judge::Judge;
 use crate::layout::write_layout_with;
-use crate::lines::write_break;
+use macho_fields::LayoutRules;
+use macho_lines::write_break;
 use macho_rules::{Refusal, Verified};
 use macho_text::transfer::{ReadFault, read_all};
-use macho_text::{Input, Output, WriteFault};
+use macho_text::{Input, OUT_OF_MEMORY, Output, WriteFault};
 use std::alloc::{AllocError, Global};
 use std::fmt;
 use thiserror::Error;
@@ -32,8 +34,6 @@ const READ_FAILED: &str = "read failed";
 const TOO_LONG: &str = "more than 4294967296 bytes";
 
 const WRITE_FAILED: &str = "write failed";
-
-const OUT_OF_MEMORY: &str = "out of memory";
 
 /// Why a run wrote no report, or not all of it. The texts are the lines of `macho-check`, without the
 /// line feed.

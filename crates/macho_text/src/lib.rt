@@ -13,4 +13,4 @@ pub use from_read::FromRead;
 pub use from_write::FromWrite;
 pub use line::Line;
 pub use stream::{Failed, Flush, Input, Output};
-pub use transfer::{WriteFault, write_all};
+pub use transfer::{OUT_OF_MEMORY, WriteFault, write_all};

@@ -10,6 +10,9 @@ use crate::stream::{Failed, Input, Output};
 use std::alloc::{AllocError, Global};
 use thiserror::Error;
 
+/// What a fault says where there was no memory.
+pub const OUT_OF_MEMORY: &str = "out of memory";
+
 /// Why an input was not read to its end.
 #[derive(Clone, Copy, Debug, PartialEq, Eq, Error)]
 pub enum ReadFault {
@@ -20,7 +23,7 @@ pub enum ReadFault {
     #[error("the input is too long")]
     TooLong,
     /// There was no memory for the input.
-    #[error("out of memory")]
+    #[error("{reason}", reason = OUT_OF_MEMORY)]
     Memory,
 }
 

@@ -12,7 +12,8 @@ mod spans;
 
 use fault::{Fault, status};
 use image::Mapper;
-use macho_report::{RunFault, run, run_where, write_break};
+use macho_lines::write_break;
+use macho_report::{RunFault, run, run_where};
 use macho_text::transfer::read_all;
 use macho_text::{FromRead, FromWrite};
 use std::alloc::Global;

@@ -1,9 +1,9 @@
 -- What the words ask of macho-verify, from what `clap` says of its matches.
 use Rattle.std.proofs.Common.{◌≡◌, List, [], Result}
 use Rattle.clap.specs.Words.{Kinds, Row}
-use Rattle.macho_program.specs.Asked.{Answers, asked_unless}
-use Rattle.macho_program.specs.declared.task.Task.{Task}
-use Rattle.macho_program.specs.declared.words.WordFault.{WordFault}
+use Rattle.macho_words.specs.Asked.{Answers, asked_unless}
+use Rattle.macho_words.specs.declared.task.Task.{Task}
+use Rattle.macho_words.specs.declared.words.WordFault.{WordFault}
 use Rattle.macho_verify.specs.Words.{asked_in}
 use Rattle.macho_verify.specs.declared.judge.ProfileRules.{ProfileRules}
 

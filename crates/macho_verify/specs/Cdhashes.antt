@@ -1,7 +1,7 @@
 -- What the report of `macho-verify sealed` says of the code directories of an image. (cs_blobs.h)
 use Rattle.std.specs.Prelude.{ℕ, List, map, take, codes}
 use Rattle.macho_text.specs.Stream.{joined}
-use Rattle.macho_report.specs.Line.{cdhash_line}
+use Rattle.macho_lines.specs.Line.{cdhash_line}
 use Rattle.macho_seals.specs.Cdhashes.{image_cdhashes}
 use Rattle.macho_seals.specs.Digests.{bytes_of_digest}
 use Rattle.macho_seals.specs.declared.digest.Digest.{Digest}

@@ -5,11 +5,11 @@ use Rattle.std.specs.Str.{bytes_eq}
 use Rattle.clap.specs.Words.{App, Row, Text, fault_of, first_of, matches_of, with_rule}
 use Rattle.macho_fields.specs.RuleList.{all_profiles, profile_name, profile_named}
 use Rattle.macho_fields.specs.declared.rule.Profile.{Profile}
-use Rattle.macho_program.specs.Asked.{Asked, asked_unless, asks, shows}
-use Rattle.macho_program.specs.Words.{bare_command, required}
-use Rattle.macho_program.specs.declared.task.Question.TheVariants.{Verdict}
-use Rattle.macho_program.specs.declared.words.WordFault.{WordFault}
-use Rattle.macho_program.specs.declared.words.WordFault.TheVariants.{Usage}
+use Rattle.macho_words.specs.Asked.{Asked, asked_unless, asks, shows}
+use Rattle.macho_words.specs.Words.{bare_command, required}
+use Rattle.macho_words.specs.declared.task.Question.TheVariants.{Verdict}
+use Rattle.macho_words.specs.declared.words.WordFault.{WordFault}
+use Rattle.macho_words.specs.declared.words.WordFault.TheVariants.{Usage}
 use Rattle.macho_verify.specs.declared.judge.ProfileRules.{ProfileRules}
 use Rattle.macho_verify.specs.declared.words.TheConstants.{HELP, VERSION}
 

@@ -7,7 +7,7 @@ ghost use Rattle.macho_text.specs.Writer.{PutsText};
 ghost use Rattle.macho_verify.specs.Cdhashes.{cdhashes_text, type_word};
 
 use macho_image::Image;
-use macho_report::write_cdhash;
+use macho_lines::write_cdhash;
 use macho_seals::{Cdhashes, Digest};
 use macho_text::{Output, WriteFault};
 

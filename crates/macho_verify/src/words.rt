@@ -2,13 +2,14 @@
 
 ghost use Rattle.std.specs.Prelude.{◌≡◌, codes, map, option_map, IfOk};
 ghost use Rattle.clap.specs.Words.{app_of, first_of, found_of, rows_of};
-ghost use Rattle.macho_program.specs.Asked.{Answers};
+ghost use Rattle.macho_words.specs.Asked.{Answers};
 ghost use Rattle.macho_verify.specs.Words.{asked_in, asked_of, own_text, profile_and_file, usage, verdict_asked};
 
 use crate::judge::ProfileRules;
 use clap::{ArgMatches, Command};
 use macho_fields::Profile;
-use macho_program::{Question, Task, Tool, WordFault, argument, bare_command, text_of};
+use macho_program::Tool;
+use macho_words::{Question, Task, WordFault, argument, bare_command, text_of};
 use std::alloc::{AllocError, Global};
 use std::convert::AsStr;
 

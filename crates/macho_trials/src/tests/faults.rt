@@ -3,11 +3,12 @@
 use super::same;
 use macho_fat::FatFault;
 use macho_fields::{Break, Rule};
-use macho_program::{ProgramFault, WordFault};
+use macho_program::ProgramFault;
 use macho_report::RunFault;
 use macho_rules::Refusal;
 use macho_text::WriteFault;
 use macho_text::transfer::ReadFault;
+use macho_words::WordFault;
 use std::fmt::Display;
 use std::process::Abort;
 

@@ -1,7 +1,7 @@
 //! The words of the command line.
 
 use super::same;
-use macho_program::{Request, WordFault, parse_words, read_number};
+use macho_words::{Request, WordFault, parse_words, read_number};
 use std::process::Abort;
 
 /// Words, and their numbers. Among those that are not numbers, after an empty one, come 2^64 and more, 21 decimal

@@ -7,8 +7,8 @@ use Rattle.macho_text.specs.declared.stream.Output as output
 use Rattle.macho_text.specs.declared.stream.Flush as flush
 use Rattle.macho_report.specs.declared.judge.Judge as judge
 use Rattle.macho_program.specs.Program.{EndsRight, ShowsRight, IsOfStandardInput, WroteFound, WroteFoundPrefix}
-use Rattle.macho_program.specs.Asked.{Asked, asked_by, shows, asks}
-use Rattle.macho_program.specs.declared.task.Question.TheVariants as question
+use Rattle.macho_words.specs.Asked.{Asked, asked_by, shows, asks}
+use Rattle.macho_words.specs.declared.task.Question.TheVariants as question
 use Rattle.macho_program.specs.declared.program.Found.{Found}
 use Rattle.macho_program.specs.declared.program.Found.TheVariants as kind
 use Rattle.macho_program.specs.declared.program.ProgramFault.{ProgramFault}

@@ -7,7 +7,7 @@ use Rattle.macho_report.specs.declared.outcome.Outcome.{Outcome}
 use Rattle.macho_report.specs.declared.address.WhereOutcome.{WhereOutcome}
 use Rattle.macho_report.specs.declared.address.WhereOutcome.TheVariants.{NoImage}
 use Rattle.macho_program.specs.Program.{WroteFoundPrefix}
-use Rattle.macho_program.specs.Asked.{asks}
+use Rattle.macho_words.specs.Asked.{asks}
 use Rattle.macho_program.proofs.program.find_in.Goals.{in-Verdict+in_ok-run_with-in-Verdict, in-Address+in_ok-run_where-in-Address}
 use Rattle.macho_program.proofs.Writes.{wrote_then_kept}
 use Rattle.macho_program.proofs.program.find_in.Goals as goal

@@ -4,7 +4,7 @@ use Rattle.macho_text.proofs.Results.{at_fault, no_answer, other_answer}
 use Rattle.macho_text.proofs.StreamLemmas.{wrote_nothing}
 use Rattle.macho_report.specs.declared.address.WhereOutcome.TheVariants.{Told, Refused}
 use Rattle.macho_report.proofs.Faults.{fails_as, fails_not, fails_to_write, lacks_memory}
-use Rattle.macho_report.specs.Text.{break_text}
+use Rattle.macho_lines.specs.Text.{break_text}
 use Rattle.macho_report.proofs.Where.{refused_other, told, told_other}
 use Rattle.macho_report.proofs.address.write_where.Goals as goal
 

@@ -2,7 +2,7 @@ use Rattle.std.proofs.Common.{◌≤◌, refl, length, arith}
 use Rattle.macho_fields.specs.Universal.{slices_of}
 use Rattle.macho_text.proofs.Loops.{indexed, found, all_passed}
 use Rattle.macho_text.proofs.Holding.{held_item_fails, held_items, holds_item, holds_start}
-use Rattle.macho_report.specs.Layout.{slice_text}
+use Rattle.macho_lines.specs.Layout.{slice_text}
 use Rattle.macho_report.proofs.layout.write_slices.Goals as goal
 
 pub loop-index-init : goal.loop-index-init

@@ -3,7 +3,7 @@ use Rattle.std.specs.List.{enumerate_from}
 use Rattle.macho_fields.specs.Universal.{slices_of}
 use Rattle.macho_text.specs.Stream.{joined}
 use Rattle.macho_text.proofs.Writers.{PutsPart}
-use Rattle.macho_report.specs.Layout.{slice_text}
+use Rattle.macho_lines.specs.Layout.{slice_text}
 use Rattle.macho_report.proofs.layout.write_slices.Given as goal
 
 -- the lines of the slices that are left are still to be written

@@ -1,6 +1,6 @@
 use Rattle.std.proofs.Common.{refl}
 use Rattle.macho_text.proofs.Results.{at_fault}
-use Rattle.macho_report.specs.Text.{break_text}
+use Rattle.macho_lines.specs.Text.{break_text}
 use Rattle.macho_report.specs.declared.outcome.Outcome.TheVariants.{Accepted, Refused}
 use Rattle.macho_report.proofs.Faults.{fails_as, fails_not, fails_to_write}
 use Rattle.macho_report.proofs.outcome.write_verdict.Goals as goal

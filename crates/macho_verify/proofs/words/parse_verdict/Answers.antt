@@ -1,7 +1,7 @@
 use Rattle.std.proofs.Common.{◌≡◌, map, List, [], refl}
 use Rattle.clap.specs.Words.{HasKind, Text, found_of, fault_of, is_simple, is_simple_and_free, kind_of, matches_of, rows_of}
 use Rattle.macho_verify.specs.Words.{profile_and_file}
-use Rattle.macho_program.proofs.Asked.{of_known, refused}
+use Rattle.macho_words.proofs.Asked.{of_known, refused}
 use Rattle.macho_verify.proofs.Asked.{answered}
 use Rattle.macho_verify.proofs.words.parse_verdict.Goals as goal
 

@@ -1,0 +1,5 @@
+pub mod Arch
+pub mod Line
+pub mod LineParts
+pub mod Layout
+pub mod Text

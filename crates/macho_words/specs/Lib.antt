@@ -1,0 +1,3 @@
+pub mod Number
+pub mod Asked
+pub mod Words
