@@ -3,17 +3,9 @@
 //!
 //! - `judge` judges files twice: `judge`;
 //! - `call NAME LIMIT` makes one call that may answer want of memory: `refusals`.
-//!
-//! It also has the tests of the crates below.
 
-#[cfg(test)]
-mod doubles;
 mod judge;
-#[cfg(test)]
-mod notation;
 mod refusals;
-#[cfg(test)]
-mod tests;
 
 use std::alloc::Global;
 use std::env::{self, Args};

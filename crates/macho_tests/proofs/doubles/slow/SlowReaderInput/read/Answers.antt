@@ -1,6 +1,6 @@
 use Rattle.std.proofs.Common.{◌≡◌, ℕ, ◌-◌, ◌<◌, List, [], ◌∷◌, ◌++◌, length, take, drop, slice_index_or, slice_set, refl, arith, ap, sym, rules}
 use Rattle.macho_text.proofs.StreamLemmas.{rest_is}
-use Rattle.macho_trials.proofs.doubles.slow.SlowReaderInput.read.Goals as goal
+use Rattle.macho_tests.proofs.doubles.slow.SlowReaderInput.read.Goals as goal
 
 -- the first byte of a list in the first place of a piece, and then the others
 first_moved : (bytes piece : List ℕ) → 0 < length bytes → 0 < length piece
