@@ -10,7 +10,7 @@ ghost use Rattle.macho_fields.specs.declared.rule.Rule.{Rule};
 ghost use Rattle.macho_rules.specs.Profile.{RefusesInside, SliceKeeps, NoImageBreaks, IsRefusalInSlice, IsRefusalOfImages};
 ghost use Rattle.macho_rules.specs.Verdict.{IsRefusalOf};
 
-use crate::refusal::Refusal;
+use crate::refusal::{Refusal, in_file};
 use crate::verdict::Verified;
 use macho_fields::{Break, Rule};
 use macho_image::Image;
@@ -87,8 +87,7 @@ fn check_slice<P: ImageProfile>(
         Err(Refusal::Broken(broken)) => {
             // The image lies in the file, so its places do too.
             prove!(verified.bytes().len() <= u64::MAX);
-            let place = slice.span.start + broken.place;
-            Err(Refusal::Broken(Break::at(broken.rule, place)))
+            Err(Refusal::Broken(in_file(broken, slice.span.start)))
         }
         Err(Refusal::Memory) => Err(Refusal::Memory),
     }

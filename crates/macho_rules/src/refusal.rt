@@ -1,6 +1,6 @@
 //! Why a file is not accepted.
 
-ghost use Rattle.std.specs.Prelude.{◌≡◌};
+ghost use Rattle.std.specs.Prelude.{◌≡◌, ◌+◌, ◌<◌, ◌^◌};
 ghost use Rattle.macho_rules.specs.Verdict.{refusal_of};
 ghost use Rattle.macho_rules.specs.declared.refusal.Refusal.TheVariants.{Broken, Memory};
 
@@ -18,6 +18,15 @@ pub enum Refusal {
     /// There was no memory to decide the rules.
     #[error("out of memory")]
     Memory,
+}
+
+// A break of bytes that begin at `start` in a file, with its place in the file.
+pub(crate) fn in_file(broken: Break, start: u64) -> Break
+    requires { start + broken.place < 2 ^ 64 }
+    ensures rule { result.rule ≡ broken.rule }
+    ensures place { result.place ≡ start + broken.place }
+{
+    Break::at(broken.rule, start + broken.place)
 }
 
 impl From<Break> for Refusal {

@@ -15,9 +15,9 @@ ghost use Rattle.macho_image.specs.Walk.{HasLandmarks};
 ghost use Rattle.macho_rules.specs.Verdict.{IsRefusal, IsImageRefusal, IsSliceRefusal, WasFound};
 
 use crate::check::check_image;
-use crate::refusal::Refusal;
+use crate::refusal::{Refusal, in_file};
 use macho_fat::{Slice, SliceList, slice_list};
-use macho_fields::{Break, Bytes, Span};
+use macho_fields::{Bytes, Span};
 use macho_image::{Image, Landmarks};
 use std::alloc::Global;
 use std::marker::Model;
@@ -118,10 +118,7 @@ fn check_slice(
     let bytes = file.slice(slice.span);
     match check_bytes(alloc, bytes, slice, keep, found) {
         Ok(()) => Ok(()),
-        Err(Refusal::Broken(broken)) => {
-            let place = slice.span.start + broken.place;
-            Err(Refusal::Broken(Break::at(broken.rule, place)))
-        }
+        Err(Refusal::Broken(broken)) => Err(Refusal::Broken(in_file(broken, slice.span.start))),
         Err(Refusal::Memory) => Err(Refusal::Memory),
     }
 }

@@ -24,8 +24,8 @@ check_image-requires-clause-before g c =
     let is = some_has (λ s. IsImage (slice_bytes file s)) (slice_get (slices_of file) c.args.index) slice at (c.in-Some-image.ensures.is_image.0 refl) in
     subst g.P.ImageProfile.before (sym same) (before_of g.P.ImageProfile.before file c.requires c.args.index slice at is)
 
-pub overflow_add-place : goal.overflow_add-place
-overflow_add-place g c =
+pub in_file-requires : goal.in_file-requires
+in_file-requires g c =
     let file = c.args.verified.now in
     let slice = slice_of c.in-Some.slice.now in
     let image = c.in-Some-image.image in
@@ -46,8 +46,8 @@ returns-in-Err-Broken-clause-refused g c =
     let broken = rw c.in-Err-Broken.field-0-is at c.in-Err-Broken.ensures.refused in (
       b,
       slice_least NoFileRule (SliceBreaks NoFileRule g.P.ProfileRules.breaks) file c.args.index slice at is b (subst (λ (bytes : List ℕ). IsLeast (g.P.ProfileRules.breaks bytes) b) same broken),
-      c.at.ensures.rule,
-      omega (arith, c.at.ensures.place, slice_start file c.args.index slice at),
+      c.in_file.ensures.rule,
+      omega (arith, c.in_file.ensures.place, slice_start file c.args.index slice at),
     )
 
 pub returns-in-Err-Memory-clause-refused : goal.returns-in-Err-Memory-clause-refused

@@ -10,8 +10,8 @@ use Rattle.macho_rules.specs.declared.refusal.Refusal.TheVariants as refusal
 use Rattle.macho_image.proofs.ReadParts.{length-part}
 use Rattle.macho_rules.proofs.verdict.check_slice.Goals as goal
 
-pub overflow_add-place : goal.overflow_add-place
-overflow_add-place c =
+pub in_file-requires : goal.in_file-requires
+in_file-requires c =
     let file = bytes_of c.args.file in
     let slice = slice_of c.args.slice.now in
     let same : bytes_of c.slice-bytes.result ≡ slice_bytes file slice = c.slice-bytes.ensures in
@@ -29,7 +29,7 @@ pub returns-in-Err-Broken-clause-refused : goal.returns-in-Err-Broken-clause-ref
 returns-in-Err-Broken-clause-refused c =
     let found = rw c.in-Err-Broken.field-0-is at c.in-Err-Broken.ensures.refused in
     let least = subst (λ (bytes : List ℕ). IsLeast (BreaksImage bytes c.args.slice.now.arch) c.in-Err-Broken.broken) c.slice-bytes.ensures found in
-    (c.in-Err-Broken.broken, least, c.at.ensures.rule, c.at.ensures.place)
+    (c.in-Err-Broken.broken, least, c.in_file.ensures.rule, c.in_file.ensures.place)
 
 pub returns-in-Err-Memory-clause-refused : goal.returns-in-Err-Memory-clause-refused
 returns-in-Err-Memory-clause-refused c =
