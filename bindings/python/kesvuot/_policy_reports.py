@@ -3,9 +3,7 @@ accepts the file."""
 
 from __future__ import annotations
 
-import tempfile
 from typing import TYPE_CHECKING, Any, Dict, Iterator, List, Optional
-from xml.sax.saxutils import quoteattr
 
 from ._check import ACCEPTED, NOT_BY_POLICY, Outcome
 from ._pages import PAGES
@@ -53,37 +51,3 @@ def sarif_results(outcome: Outcome, policy: Optional[Policy], first: int, locati
     for it, line, whole in zip(outcome.unmet, lines(outcome), objects(outcome)):
         yield {"ruleId": rule_of(it.key), "ruleIndex": numbers[it.key], "level": "error", "message": {"text": line},
                "locations": [location], "properties": whole}
-
-
-class JunitSuite:
-    """The suite of a policy: a case for each accepted file that meets it, and otherwise a failure for each key and
-    slice."""
-
-    def __init__(self, kept_in_memory: int) -> None:
-        self.cases = tempfile.SpooledTemporaryFile(kept_in_memory, "w+", encoding="utf-8")
-        self.tests = self.failures = 0
-
-    def add(self, outcome: Outcome, name: str, path: str) -> None:
-        """A file, by its name on one line and by the path with which a tool opens it."""
-        if outcome.word == ACCEPTED:
-            self._add(name, path, "")
-        for unmet, line in zip(outcome.unmet, lines(outcome)):
-            self._add(name, path, line, unmet)
-
-    def _add(self, name: str, path: str, line: str, unmet: Optional[Unmet] = None) -> None:
-        end = "/>"
-        if unmet:
-            name += f": {unmet.key}" + ("" if unmet.index is None else f", slice {unmet.index}")
-            end = (f">\n      <failure type={quoteattr(rule_of(unmet.key))} message={quoteattr(line)}/>\n"
-                   "    </testcase>")
-            self.failures += 1
-        self.tests += 1
-        start = f'    <testcase classname="kesvuot.policy" name={quoteattr(name)} file={quoteattr(path)}'
-        self.cases.write(f"{start}{end}\n")
-
-    def head(self, path: str) -> str:
-        counts = f'tests="{self.tests}" failures="{self.failures}" errors="0" skipped="0"'
-        return f"  <testsuite name={quoteattr(f'kesvuot check, policy {path}')} {counts}>\n"
-
-    def close(self) -> None:
-        self.cases.close()

@@ -17,10 +17,13 @@ import os
 import signal
 from collections import deque
 from itertools import islice
-from multiprocessing.connection import Connection, Pipe, wait
-from typing import Any, Callable, Deque, Dict, Iterable, Iterator, List, NamedTuple, Optional, Tuple, TypeVar
+from typing import (
+    TYPE_CHECKING, Any, Callable, Deque, Dict, Iterable, Iterator, List, NamedTuple, Optional, Tuple, TypeVar)
 
 from ._interrupts import forget_interrupts, held_interrupts
+
+if TYPE_CHECKING:
+    from multiprocessing.connection import Connection
 
 Item = TypeVar("Item")
 
@@ -198,6 +201,9 @@ class _Pool:
         self.work = work
         self.jobs = jobs
         self.workers: Dict[Connection, Worker] = {}
+        # It loads sockets and more, which one file does not need.
+        from multiprocessing import connection  # pylint: disable=import-outside-toplevel
+        self.new_pipe, self.wait = connection.Pipe, connection.wait
 
     def run(self, tasks: Iterator[Task]) -> Iterator[List[Any]]:
         """The results of the tasks, in the order of the tasks, when they are there."""
@@ -269,7 +275,7 @@ class _Pool:
         results are taken, has none that wait."""
         ready = [it.connection for it in self.workers.values()
                  if it.tasks and len(it.tasks[0].results) < MOST_WAITING]
-        for connection in wait(ready):
+        for connection in self.wait(ready):
             worker = self.workers[connection]  # type: ignore[index]
             try:
                 answer = worker.connection.recv()
@@ -334,7 +340,7 @@ class _Pool:
 
     def _start(self, heavy: Optional[Task] = None) -> Optional[Worker]:
         """Starts a process, if there can be one more."""
-        here, there = Pipe()
+        here, there = self.new_pipe()
         starter = os.getpid()
         with held_interrupts():
             try:

@@ -7,7 +7,6 @@ import json
 import signal
 import tempfile
 from typing import TYPE_CHECKING, Any, Callable, Dict, Optional, Type
-from xml.sax.saxutils import escape, quoteattr
 
 from . import _policy_reports
 from ._check import (
@@ -31,7 +30,8 @@ VERSION = "2.0.0"
 
 # The form of the objects of JSON. A field may be added without a new version.
 CHECK_VERSION = 1
-# JUnit has its counts first. So much of what follows them is kept in memory, and the rest in a file.
+# SARIF has the faults after the files, and JUnit the counts before them. So much of what waits is kept in memory, and
+# the rest in a file.
 KEPT_IN_MEMORY = 1 << 20
 
 
@@ -250,64 +250,6 @@ def copy_text(source: Any, write: Write) -> None:
         write(piece)
 
 
-class Junit(Report):
-    """A test case for each file: a refusal is a failure, and no verdict an error. A policy has a suite of its own."""
-
-    errors = "xmlcharrefreplace"
-    encoding = "ascii"
-
-    def __init__(self, write: Write, profile: str) -> None:
-        super().__init__(write, profile)
-        self.cases = tempfile.SpooledTemporaryFile(KEPT_IN_MEMORY, "w+", encoding="utf-8")
-        self.suite = _policy_reports.JunitSuite(KEPT_IN_MEMORY)
-
-    def add(self, outcome: Outcome) -> None:
-        if outcome.word == SKIPPED:
-            return
-        name, path = quoteattr(shown(outcome.path)), quoteattr(located(outcome.path))
-        start = f'    <testcase classname="kesvuot.{self.profile}" name={name} file={path}'
-        if self.policy:
-            self.suite.add(outcome, shown(outcome.path), located(outcome.path))
-        if outcome.word in (ACCEPTED, NOT_BY_POLICY):
-            self.cases.write(f"{start}/>\n")
-            return
-        if outcome.word == OTHER_KIND or outcome.is_known:
-            reason = f"{outcome.kind}, not judged" if outcome.word == OTHER_KIND else reason_text(outcome)
-            self.cases.write(f"{start}>\n      <skipped message={quoteattr(reason)}/>\n    </testcase>\n")
-            return
-        is_refused = outcome.word == REFUSED
-        tag, kind = ("failure", outcome.rule) if is_refused else ("error", outcome.word)
-        text = escape(rule_text(outcome.rule)) if is_refused else ""
-        self.cases.write(f"{start}>\n      <{tag} type={quoteattr(kind)} message={quoteattr(reason_text(outcome))}>"
-                         f"{text}</{tag}>\n    </testcase>\n")
-
-    def end(self, summary: Summary) -> None:
-        tests = sum(count for word, count in summary.words.items() if word != SKIPPED)
-        errors, failures = summary.words[NO_VERDICT], summary.words[REFUSED] - summary.known
-        if summary.fault:
-            tests, errors = tests + 1, errors + 1
-            kind = "interrupted" if summary.signal else "failed"
-            self.cases.write(f'    <testcase classname="kesvuot.{self.profile}" name="all files">\n'
-                             f'      <error type="{kind}" message={quoteattr(summary.fault)}/>\n    </testcase>\n')
-        counts = f'tests="{tests}" failures="{failures}" errors="{errors}"'
-        whole = (f'tests="{tests + self.suite.tests}" failures="{failures + self.suite.failures}" '
-                 f'errors="{errors}"')
-        self.write(f'<?xml version="1.0" encoding="UTF-8"?>\n<testsuites name="kesvuot" {whole}>\n'
-                   f'  <testsuite name="kesvuot check, profile {self.profile}" {counts} '
-                   f'skipped="{summary.words[OTHER_KIND] + summary.known}">\n')
-        copy_text(self.cases, self.write)
-        self.write("  </testsuite>\n")
-        if self.policy:
-            self.write(self.suite.head(shown(self.policy.path)))
-            copy_text(self.suite.cases, self.write)
-            self.write("  </testsuite>\n")
-        self.write("</testsuites>\n")
-
-    def close(self) -> None:
-        self.cases.close()
-        self.suite.close()
-
-
 class GitHub(Report):
     """A command of GitHub's workflows for each file that is not accepted, for each key of a policy that a file does not
     meet, and for a run that has failed; and the summary."""
@@ -340,5 +282,10 @@ def escaped(text: str) -> str:
     return text.replace("%", "%25").replace("\r", "%0D").replace("\n", "%0A")
 
 
-REPORTS: Dict[str, Type[Report]] = {
-    "json": Json, "jsonl": JsonLines, "sarif": Sarif, "junit": Junit, "github": GitHub}
+def junit() -> Type[Report]:
+    from ._junit import Junit  # pylint: disable=import-outside-toplevel # it needs this module
+    return Junit
+
+
+REPORTS: Dict[str, Callable[[], Type[Report]]] = {
+    "json": lambda: Json, "jsonl": lambda: JsonLines, "sarif": lambda: Sarif, "junit": junit, "github": lambda: GitHub}

@@ -195,7 +195,7 @@ def check(words: argparse.Namespace) -> int:
     """Judges files and folders."""
     check_words(words)
     policy = _read_policy(words)
-    form = REPORTS.get(words.format)
+    form = REPORTS[words.format]() if words.format in REPORTS else None
     output = Output(form.encoding, form.errors) if form else Output()
     report = form(output.write, words.profile) if form else Text(output.write, words.profile, words.quiet)
     if words.no_unsupported_slices:
