@@ -84,7 +84,9 @@ def program_answers(program, questions):
         return answers
 
 def compare(oracle, program, questions):
-    program_says = program_answers(program, questions)
+    return compare_with(oracle, questions, program_answers(program, questions))
+
+def compare_with(oracle, questions, program_says):
     oracle_says = [oracle_answer(oracle, question) for question in questions]
     differences = [Difference(*row) for row in zip(questions, oracle_says, program_says) if row[1] != row[2]]
     return Compared(differences, Counter(map(kind_of, oracle_says)), oracle_says, program_says)
@@ -94,24 +96,28 @@ def kind_of(says):
     found = re.match(rb"refused: ([a-z-]+) at|(accepted|file|zero|unmapped|macho-check: [a-z ]*)", says[1])
     return found.group(1 if found.group(1) else 2).decode() if found else "other"
 
-def batch(bounds):
-    """Makes and compares the mutants from a number up to another: of each the verdict, and then what is at addresses of
-    most of those that the program accepts and of a few others."""
+def ask(bounds):
+    """Makes the mutants from a number up to another. Returns the questions about them and what the program answers: of
+    each the verdict, and then what is at addresses of most of those that it accepts and of a few others."""
     mutants = [mutant(work.seed, number, work.corpus, work.weights, work.ways) for number in range(*bounds)]
     verdicts = [for_verdict("mutant %d of seed %d" % (number, work.seed), data, work.profile)
                 for number, (data, _) in zip(range(*bounds), mutants)]
-    judged = compare(work.oracle, work.program, verdicts)
-    if work.profile != "layout":
-        return len(verdicts), judged.differences, judged.kinds
+    answers = program_answers(work.program, verdicts)
     addresses = []
-    for question, (data, rng), answer in zip(verdicts, mutants, judged.program):
+    for question, (data, rng), answer in zip(verdicts, mutants, answers) if work.profile == "layout" else ():
         last = max(len(starts_of_images(data)) - 1, 0)
         for _ in range(2 if rng.random() < (0.7 if answer[0] == 0 else 0.05) else 0):
             words = (written(rng, rng.choice((0, rng.randint(0, last), last, last + 1))),
                      written(rng, some_address(rng, data)))
             addresses.append(Question(question.name, data, "where", words))
-    located = compare(work.oracle, work.program, addresses)
-    return (len(verdicts) + len(addresses), judged.differences + located.differences, judged.kinds + located.kinds)
+    return verdicts + addresses, answers + program_answers(work.program, addresses)
+
+def batch(bounds):
+    """Makes and compares the mutants from a number up to another."""
+    return compare_with(work.oracle, *ask(bounds))
+
+def batches_of(count):
+    return [(first, min(first + BATCH, count)) for first in range(0, count, BATCH)]
 
 # What is set before the processes begin, and is the same in all of them.
 work = None
@@ -198,15 +204,6 @@ def judge_vectors(report, oracle, program, profile):
     names = {rule.__name__.replace("_", "-") for each in up_to(profile) for rule in oracle.RULES[each]} - HIDDEN
     unbroken = " ".join(names - set(seen))
     report.case("rules that no vector breaks first", unbroken or "none", "none")
-
-def find_difference(oracle, profile):
-    """Says the first vector of the profile's own that has another verdict by hand than the oracle gives it."""
-    for path in filter(lambda path: is_whole(path, profile), vector_files(profile)):
-        for vector in read_vectors(path):
-            says = oracle_answer(oracle, for_verdict(vector.name, vector.data, profile))
-            if not says_verdict(says, vector.wanted):
-                print("the first difference: %s: %s" % (path.name, vector.name), file=sys.stderr)
-                return
 
 def agrees_by_hand(report, question, says, verdict):
     """Whether the oracle, which says this, has the verdict, where one is known."""
@@ -346,23 +343,62 @@ def judge_folders(report, oracle, program, profile, folders):
         questions = [for_verdict(name, data, profile) for name, data in read_folder(folder)]
         report.agreeing(folder, compare(oracle, program, questions).differences, len(questions), "answers")
 
-def judge_mutants(report, count, jobs, only_first):
+def judge_mutants(report, count, jobs):
     total = 0
     differences = []
     kinds = Counter()
-    bounds = [(first, min(first + BATCH, count)) for first in range(0, count, BATCH)]
     with multiprocessing.get_context("fork").Pool(jobs) as pool:
-        for answers, some, seen in pool.imap(batch, bounds):
-            total += answers
-            differences += some
-            kinds += seen
-            if only_first and differences:
-                break
-    if differences:
-        print("the first difference: %s" % differences[0].question.name, file=sys.stderr)
+        for compared in pool.imap(batch, batches_of(count)):
+            total += len(compared.program)
+            differences += compared.differences
+            kinds += compared.kinds
     report.agreeing("%d mutants of seed %d" % (count, work.seed), differences, total, "answers")
     print("the answers to mutants: %s" % ", ".join("%d %s" % (n, kind) for kind, n in kinds.most_common()),
           file=sys.stderr)
+
+class OwnVectors:
+    """The vectors of the profile alone, with their verdicts by hand."""
+
+    def __init__(self, profile):
+        self.questions = [(for_verdict("%s: %s" % (path.name, vector.name), vector.data, profile), vector.wanted)
+                          for path in vector_files(profile) if is_whole(path, profile) for vector in read_vectors(path)]
+
+    def first_difference(self, oracle):
+        """The name of a vector to which the oracle gives another verdict, or None. Mistakes and vectors are both in the
+        order of the rules, so the next mistake is most likely seen near the vector that shows this one."""
+        for index, (question, wanted) in enumerate(self.questions):
+            if not says_verdict(oracle_answer(oracle, question), wanted):
+                self.questions = self.questions[index:] + self.questions[:index]
+                return question.name
+        return None
+
+class Mutants:
+    """Mutants with what the program says of them. Each is made when it is first asked for."""
+
+    def __init__(self, count):
+        self.known = []
+        self.left = map(ask, batches_of(count))
+
+    def answers(self):
+        for questions, answers in chain(self.known, self.made()):
+            yield from zip(questions, answers)
+
+    def made(self):
+        for some in self.left:
+            self.known.append(some)
+            yield some
+
+    def first_difference(self, oracle):
+        return next((question.name for question, says in self.answers() if oracle_answer(oracle, question) != says), None)
+
+def judge_mistakes(report, listed, count, profile):
+    """Copies of the oracle with a mistake, each of which a vector of the profile or a mutant has to show."""
+    ways = {"own": OwnVectors(profile), "mutants": Mutants(count)}
+    with open(listed, encoding="utf-8") as lines:
+        for line in lines:
+            mistake, way, path = line.rstrip("\n").split("\t")
+            first = ways[way].first_difference(load(path))
+            report.case("%s is seen%s" % (mistake, first and ", by %s" % first or ""), first and "seen", "seen")
 
 def main():
     global work  # pylint: disable=global-statement
@@ -376,18 +412,14 @@ def main():
     parser.add_argument("--keep", default=os.path.join(tempfile.gettempdir(), "macho-check-differences"),
                         help="the folder for files on which the two differ")
     parser.add_argument("--oracle", default=ORACLE, help="another oracle")
+    parser.add_argument("--mistakes", help="a file that lists copies of the oracle with mistakes, to be seen")
     parser.add_argument("--program", help="another program")
-    parser.add_argument("--first", action="store_true", help="mutants alone, up to the first difference")
-    parser.add_argument("--own", action="store_true", help="the vectors of the profile alone, up to the first difference")
     parser.add_argument("folders", nargs="*", help="folders of other files, which are judged and mutated as well")
     words = parser.parse_args()
 
     profile = words.profile
     program = words.program or (MACHO_CHECK if profile == "layout" else MACHO_VERIFY)
     oracle = load(words.oracle)
-    if words.own:
-        find_difference(oracle, profile)
-        return
     report = Report(words.keep)
     vectors = [vector for _, vectors in read_all_vectors(profile) for vector in vectors]
     real = [data for _, data, _ in read_real()]
@@ -403,19 +435,21 @@ def main():
     work = argparse.Namespace(
         seed=words.seed, oracle=oracle, program=program, corpus=corpus, weights=weights, profile=profile,
         ways=WAYS_OF[profile])
-    if not words.first:
-        judge_vectors(report, oracle, program, profile)
-        judge_real(report, oracle, program, profile)
-        judge_folders(report, oracle, program, profile, words.folders)
-    if not words.first and profile == "sealed":
+    if words.mistakes:
+        judge_mistakes(report, words.mistakes, words.count, profile)
+        return
+    judge_vectors(report, oracle, program, profile)
+    judge_real(report, oracle, program, profile)
+    judge_folders(report, oracle, program, profile, words.folders)
+    if profile == "sealed":
         judge_bytes(report, oracle, program)
-    if not words.first and profile != "layout":
+    if profile != "layout":
         judge_reports_further(report, oracle, program, profile)
-    elif not words.first:
+    else:
         judge_reports(report, oracle, program)
         judge_addresses(report, oracle, program)
         judge_numbers(report, oracle, program, real[0])
-    judge_mutants(report, words.count, words.jobs, words.first)
+    judge_mutants(report, words.count, words.jobs)
 
 if __name__ == "__main__":
     main()
