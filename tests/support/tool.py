@@ -13,6 +13,17 @@ from .programs import library_folder
 MODULE = TOP / "bindings/python"
 # The interpreter itself, with the standard library alone. A warning is an error.
 PYTHON = [sys.executable, "-S", "-W", "error"]
+# What Python compiles of its modules and of ours, for all scripts: it takes longer than most calls of the command.
+COMPILED = TOP / "build/python"
+
+
+def tool_environment(**variables: object) -> dict[str, str]:
+    """The environment in which Python finds the package `kesvuot` and the library, with these variables besides. Output
+    is buffered, as it is by default."""
+    return with_variables(**{
+        "PYTHONDONTWRITEBYTECODE": None, "PYTHONPYCACHEPREFIX": COMPILED, "PYTHONPATH": MODULE,
+        "PYTHONIOENCODING": "utf-8", "PYTHONUNBUFFERED": None, "KESVUOT_LIB_DIR": library_folder(), "NO_COLOR": None,
+        "TERM": "xterm", **variables})
 
 
 class ToolCase(Case):
@@ -21,10 +32,7 @@ class ToolCase(Case):
     def setUp(self) -> None:
         super().setUp()
         self.files = make_folder(self.room / "files")
-        # Output is buffered, as it is by default.
-        self.environment = with_variables(
-            PYTHONDONTWRITEBYTECODE=1, PYTHONPATH=MODULE, PYTHONIOENCODING="utf-8", PYTHONUNBUFFERED=None,
-            KESVUOT_LIB_DIR=library_folder(), TMPDIR=self.room, NO_COLOR=None, TERM="xterm")
+        self.environment = tool_environment(TMPDIR=self.room)
 
     def run_here(self, *words: Word, **given) -> Answer:
         """Runs Python in the folder of files."""
