@@ -407,7 +407,7 @@ def main():
         parser.add_argument("--" + name, dest="profile", action="store_const", const=name, default="layout",
                             help="the %s profile, and macho-verify" % name)
     parser.add_argument("--seed", type=int, default=1, help="of the mutants; 1 otherwise")
-    parser.add_argument("--count", type=int, default=3000, help="of the mutants; 3000 otherwise")
+    parser.add_argument("--count", type=int, default=1000, help="of the mutants; 1000 otherwise")
     parser.add_argument("--jobs", type=int, default=2, help="how many processes; 2 otherwise")
     parser.add_argument("--keep", default=os.path.join(tempfile.gettempdir(), "macho-check-differences"),
                         help="the folder for files on which the two differ")
