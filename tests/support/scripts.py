@@ -12,7 +12,7 @@ import time
 from concurrent.futures import Future, ThreadPoolExecutor
 from dataclasses import dataclass
 from pathlib import Path
-from typing import Callable, NamedTuple, NoReturn, Sequence
+from typing import Callable, Mapping, NamedTuple, NoReturn, Sequence
 
 from .calling import TOP, Word, has_tool
 from .processes import STARTING, end_with_threads
@@ -113,10 +113,11 @@ class Terminal:
             self.draw("")
 
 
-def run_lines(words: Sequence[Word], show: Callable[[str], None]) -> int:
+def run_lines(words: Sequence[Word], show: Callable[[str], None], environment: Mapping[str, str] | None = None) -> int:
     """Runs a program without input, shows each line that it writes, and returns its status."""
     with STARTING:
-        process = subprocess.Popen(words, stdin=subprocess.DEVNULL, stdout=subprocess.PIPE, stderr=subprocess.STDOUT)
+        process = subprocess.Popen(words, stdin=subprocess.DEVNULL, stdout=subprocess.PIPE, stderr=subprocess.STDOUT,
+                                   env=environment)
     with process:
         for line in process.stdout:
             show(line.decode(errors="replace").rstrip("\n"))
@@ -207,7 +208,8 @@ class Gate:
         elif not has_tool("cc") or not has_tool("objcopy"):
             self.skip("the library", "there is no cc, or no objcopy")
         else:
-            if run_lines([TOP / "packaging/library"], self.terminal.print):
+            # Scripts run beside it, so it proves by one job.
+            if run_lines([TOP / "packaging/library"], self.terminal.print, {"RT_JOBS": "1", **os.environ}):
                 self.fault("the library", "it was not built")
 
     def fault(self, case: str, why: str) -> None:
