@@ -340,9 +340,10 @@ class _Pool:
 
     def _start(self, heavy: Optional[Task] = None) -> Optional[Worker]:
         """Starts a process, if there can be one more."""
-        here, there = self.new_pipe()
         starter = os.getpid()
         with held_interrupts():
+            # An interrupt in it would leave a socket that nobody closes, of which Python may warn.
+            here, there = self.new_pipe()
             try:
                 process = os.fork()
             except OSError:
