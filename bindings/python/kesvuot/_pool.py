@@ -201,8 +201,10 @@ class _Pool:
         self.work = work
         self.jobs = jobs
         self.workers: Dict[Connection, Worker] = {}
-        # It loads sockets and more, which one file does not need.
-        from multiprocessing import connection  # pylint: disable=import-outside-toplevel
+        # It loads sockets and more, which one file does not need. An interrupt in it would leave files open, as one in the
+        # making of a pipe would.
+        with held_interrupts():
+            from multiprocessing import connection  # pylint: disable=import-outside-toplevel
         self.new_pipe, self.wait = connection.Pipe, connection.wait
 
     def run(self, tasks: Iterator[Task]) -> Iterator[List[Any]]:
@@ -342,7 +344,6 @@ class _Pool:
         """Starts a process, if there can be one more."""
         starter = os.getpid()
         with held_interrupts():
-            # An interrupt in it would leave a socket that nobody closes, of which Python may warn.
             here, there = self.new_pipe()
             try:
                 process = os.fork()
