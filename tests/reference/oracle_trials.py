@@ -27,7 +27,7 @@ from fixtures.notation import read_count, read_vectors
 from fixtures.table_mutants import starts_of_images
 from support.programs import MACHO_CHECK, MACHO_VERIFY, PROFILES, REAL
 
-from . import HIDDEN, ORACLE, load
+from . import HIDDEN, load
 
 BATCH = 50
 SHOWN = 20
@@ -389,7 +389,8 @@ class Mutants:
             yield some
 
     def first_difference(self, oracle):
-        return next((question.name for question, says in self.answers() if oracle_answer(oracle, question) != says), None)
+        return next((question.name for question, says in self.answers() if oracle_answer(oracle, question) != says),
+                    None)
 
 def judge_mistakes(report, listed, count, profile):
     """Copies of the oracle with a mistake, each of which a vector of the profile or a mutant has to show."""
@@ -411,7 +412,6 @@ def main():
     parser.add_argument("--jobs", type=int, default=2, help="how many processes; 2 otherwise")
     parser.add_argument("--keep", default=os.path.join(tempfile.gettempdir(), "macho-check-differences"),
                         help="the folder for files on which the two differ")
-    parser.add_argument("--oracle", default=ORACLE, help="another oracle")
     parser.add_argument("--mistakes", help="a file that lists copies of the oracle with mistakes, to be seen")
     parser.add_argument("--program", help="another program")
     parser.add_argument("folders", nargs="*", help="folders of other files, which are judged and mutated as well")
@@ -419,7 +419,7 @@ def main():
 
     profile = words.profile
     program = words.program or (MACHO_CHECK if profile == "layout" else MACHO_VERIFY)
-    oracle = load(words.oracle)
+    oracle = load()
     report = Report(words.keep)
     vectors = [vector for _, vectors in read_all_vectors(profile) for vector in vectors]
     real = [data for _, data, _ in read_real()]
