@@ -18,14 +18,17 @@ from .calling import TOP, Word, has_tool
 from .processes import STARTING, end_with_threads
 from .programs import build_trials
 
-# What takes long comes first. The early ones run stubs, a program of their own or none, so they run beside the proofs.
-# The next ones run the programs, and tests/mutants the prover. Those of the library wait until it is built.
-EARLY_SCRIPTS = "command floor dyld counts agreed".split()
-PROGRAM_SCRIPTS = ("mutants program refusals oracle strict linked unambiguous other_readers sealed claims sizes limits"
-                   " vectors packed_vectors edited").split()
+# What takes long comes first. The early ones run a program of their own or none, so they run beside the proofs, which go
+# before them. The next ones run the programs or stubs, and tests/mutants the prover. Those of the library wait until it
+# is built.
+EARLY_SCRIPTS = "floor dyld counts agreed".split()
+PROGRAM_SCRIPTS = ("mutants program command refusals oracle strict linked unambiguous other_readers sealed claims sizes"
+                   " limits vectors packed_vectors edited").split()
 LIBRARY_SCRIPTS = ("cost rebuild library python cluster tool stores policies archives map explain slots code exports"
                    " examples rust go fuzz recipes install").split()
 SCRIPTS = [*EARLY_SCRIPTS, *PROGRAM_SCRIPTS, *LIBRARY_SCRIPTS]
+# The niceness of a process that runs when no other one does. (setpriority(2))
+LEAST_URGENT = 19
 CLOSING_LINE = re.compile(r"(\d+) passed, (\d+) failed")
 
 
@@ -113,11 +116,14 @@ class Terminal:
             self.draw("")
 
 
-def run_lines(words: Sequence[Word], show: Callable[[str], None], environment: Mapping[str, str] | None = None) -> int:
+def run_lines(words: Sequence[Word], show: Callable[[str], None], environment: Mapping[str, str] | None = None,
+              niceness: int = 0) -> int:
     """Runs a program without input, shows each line that it writes, and returns its status."""
     with STARTING:
         process = subprocess.Popen(words, stdin=subprocess.DEVNULL, stdout=subprocess.PIPE, stderr=subprocess.STDOUT,
                                    env=environment)
+    if niceness:
+        os.setpriority(os.PRIO_PROCESS, process.pid, niceness)
     with process:
         for line in process.stdout:
             show(line.decode(errors="replace").rstrip("\n"))
@@ -135,9 +141,9 @@ class Script:
         self.is_shown = False
         self.lock = threading.Lock()
 
-    def run(self) -> None:
+    def run(self, niceness: int = 0) -> None:
         self.terminal.begin(self.name)
-        self.status = run_lines([TOP / "tests" / self.name], self.keep)
+        self.status = run_lines([TOP / "tests" / self.name], self.keep, niceness=niceness)
         self.terminal.end(self.name)
 
     def keep(self, line: str) -> None:
@@ -188,8 +194,8 @@ class Gate:
         ran.result()
         self.counts.add(script.counts())
 
-    def begin(self, names: Sequence[str]) -> list[tuple[Script, Future]]:
-        return [(script, self.pool.submit(script.run)) for script in self.scripts if script.name in names]
+    def begin(self, names: Sequence[str], niceness: int = 0) -> list[tuple[Script, Future]]:
+        return [(script, self.pool.submit(script.run, niceness)) for script in self.scripts if script.name in names]
 
     def prove(self) -> None:
         """Runs rt ci, on a core more than the other scripts have."""
@@ -223,7 +229,7 @@ class Gate:
             self.fault("macho_trials", why)
 
     def run(self) -> int:
-        early = self.begin(EARLY_SCRIPTS)
+        early = self.begin(EARLY_SCRIPTS, LEAST_URGENT if self.is_proved else 0)
         if self.is_proved:
             self.prove()
         elif any(script.name in ("refusals", "vectors") for script in self.scripts):
