@@ -2,7 +2,6 @@
 
 from __future__ import annotations
 
-import hashlib
 import os
 import time
 from fnmatch import fnmatchcase
@@ -294,7 +293,7 @@ def judge(target: Target, choice: Choice) -> Outcome:
         size = len(data)
         if stamps is None:
             return judge_bytes(path, data, choice, target.is_found)
-        identity = Identity(hashlib.sha256(data).hexdigest(), _settled(stamps, began))
+        identity = Identity(_sha256(data), _settled(stamps, began))
         known = choice.known.of_bytes(path, identity.sha256) if choice.known else None
         outcome = _known_outcome(known, target.is_found, choice) or judge_bytes(path, data, choice, target.is_found)
         return outcome._replace(size=size, identity=identity)
@@ -302,6 +301,11 @@ def judge(target: Target, choice: Choice) -> Outcome:
         return Outcome(path, SKIPPED)
     except Exception as error:  # pylint: disable=broad-except # one file without a verdict is not all of them
         return Outcome(path, NO_VERDICT, size, reason=_reason(error))
+
+
+def _sha256(data: Contents) -> str:
+    import hashlib  # pylint: disable=import-outside-toplevel # it loads OpenSSL, and only a manifest has hashes
+    return hashlib.sha256(data).hexdigest()
 
 
 def outcome_before(target: Target, choice: Choice) -> Optional[Outcome]:

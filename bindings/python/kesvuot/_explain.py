@@ -17,14 +17,13 @@ from ._command_stories import HELD
 from ._explanation import Part as FilePart
 from ._files import ARCHITECTURES, File, Image
 from ._names import command_name
-from ._output import GREEN, RED, Output, coloured, say
+from ._output import GREEN, RED, Output, coloured, columns, say
 from ._pages import PAGES
 from ._parts import image_parts, slices_of
 from ._profiles import PROFILES, later
 from ._paths import shown
 from ._reports import check_object, link, reason_text, rule_text
 from ._rules import RULES
-from ._show import columns
 from ._stories import Told, told_of
 from ._structures import LISTED, size_of
 from .constants import LC_THREAD, LC_UNIXTHREAD

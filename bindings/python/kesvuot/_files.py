@@ -7,8 +7,7 @@ import enum
 import operator
 import os
 from functools import cached_property, lru_cache, partial
-from typing import Any, Dict, NamedTuple, Optional, SupportsIndex, Tuple, Union
-from uuid import UUID
+from typing import TYPE_CHECKING, Any, Dict, NamedTuple, Optional, SupportsIndex, Tuple, Union
 
 from . import _exports, _fixups, _library, _reading, _rows
 from ._fixups import Fixup, Import
@@ -21,6 +20,9 @@ from ._symbols import Strings, Symbol
 from .constants import (
     CPU_SUBTYPE_ARM64_ALL, CPU_SUBTYPE_ARM64E, CPU_SUBTYPE_X86_64_ALL, CPU_SUBTYPE_X86_64_H, CPU_TYPE_ARM64,
     CPU_TYPE_X86_64, LC_LOAD_DYLINKER, LC_RPATH, MH_TWOLEVEL)
+
+if TYPE_CHECKING:
+    from uuid import UUID
 
 # Room for the layout of most files. A longer one takes a second call.
 LAYOUT_ROOM = 1 << 14
@@ -156,7 +158,6 @@ class Image(Slice):
     headers are mapped is header-segment, a strict rule
     `entry`: the address that LC_MAIN names, or None without one; a program can have a `thread_entry` then
     `id`: a Library, what the image is as one by its LC_ID_DYLIB, or None without one
-    `uuid`: the uuid.UUID of LC_UUID, or None without one
     `symtab`, `dysymtab`: a Symtab and a Dysymtab, or None without such a command
 
     Each table is a property, whose rows are found by their indices, as in a list. Symbols and indirect entries are read
@@ -176,10 +177,16 @@ class Image(Slice):
         self.base: Optional[int] = fields[2] if has & _library.HAS_BASE else None
         self.entry: Optional[int] = fields[3] if has & _library.HAS_ENTRY else None
         self.id = Library(data.part(*fields[15:17]), *fields[17:20]) if has & _library.HAS_ID else None
-        self.uuid = UUID(bytes=fields[32]) if has & _library.HAS_UUID else None
+        self._uuid: Optional[bytes] = fields[32] if has & _library.HAS_UUID else None
         self.symtab = Symtab(*fields[4:8]) if has & _library.HAS_SYMTAB else None
         self.dysymtab = Dysymtab(*fields[26:32], *fields[8:10]) if has & _library.HAS_DYSYMTAB else None
         self._symbols = _rows.symbols_of(Strings(data, written, self.flags & MH_TWOLEVEL != 0))
+
+    @cached_property
+    def uuid(self) -> Optional[UUID]:
+        """The UUID of LC_UUID, or None without one."""
+        from uuid import UUID  # pylint: disable=import-outside-toplevel # it loads much, and most images are not asked
+        return UUID(bytes=self._uuid) if self._uuid else None
 
     def _walked(self, kind: _rows.Kind, count: int) -> Table[Any]:
         return Table(WalkedReader(self._data, self._image, kind, count).read, range(count))

@@ -3,14 +3,14 @@ no other form needs."""
 
 from __future__ import annotations
 
-import tempfile
 from typing import TYPE_CHECKING, Optional
 from xml.sax.saxutils import escape, quoteattr
 
 from ._check import ACCEPTED, NO_VERDICT, NOT_BY_POLICY, OTHER_KIND, REFUSED, SKIPPED, Outcome, Summary
 from ._paths import located, shown
 from ._policy_reports import lines, rule_of
-from ._reports import KEPT_IN_MEMORY, Report, Write, copy_text, reason_text, rule_text
+from ._reports import Report, Write, reason_text, rule_text
+from ._waiting import Waiting
 
 if TYPE_CHECKING:
     from ._policy import Unmet
@@ -21,7 +21,7 @@ class JunitSuite:
     slice."""
 
     def __init__(self) -> None:
-        self.cases = tempfile.SpooledTemporaryFile(KEPT_IN_MEMORY, "w+", encoding="utf-8")
+        self.cases = Waiting()
         self.tests = self.failures = 0
 
     def add(self, outcome: Outcome, name: str, path: str) -> None:
@@ -40,7 +40,7 @@ class JunitSuite:
             self.failures += 1
         self.tests += 1
         start = f'    <testcase classname="kesvuot.policy" name={quoteattr(name)} file={quoteattr(path)}'
-        self.cases.write(f"{start}{end}\n")
+        self.cases.add(f"{start}{end}\n")
 
     def head(self, path: str) -> str:
         counts = f'tests="{self.tests}" failures="{self.failures}" errors="0" skipped="0"'
@@ -58,7 +58,7 @@ class Junit(Report):
 
     def __init__(self, write: Write, profile: str) -> None:
         super().__init__(write, profile)
-        self.cases = tempfile.SpooledTemporaryFile(KEPT_IN_MEMORY, "w+", encoding="utf-8")
+        self.cases = Waiting()
         self.suite = JunitSuite()
 
     def add(self, outcome: Outcome) -> None:
@@ -69,17 +69,17 @@ class Junit(Report):
         if self.policy:
             self.suite.add(outcome, shown(outcome.path), located(outcome.path))
         if outcome.word in (ACCEPTED, NOT_BY_POLICY):
-            self.cases.write(f"{start}/>\n")
+            self.cases.add(f"{start}/>\n")
             return
         if outcome.word == OTHER_KIND or outcome.is_known:
             reason = f"{outcome.kind}, not judged" if outcome.word == OTHER_KIND else reason_text(outcome)
-            self.cases.write(f"{start}>\n      <skipped message={quoteattr(reason)}/>\n    </testcase>\n")
+            self.cases.add(f"{start}>\n      <skipped message={quoteattr(reason)}/>\n    </testcase>\n")
             return
         is_refused = outcome.word == REFUSED
         tag, kind = ("failure", outcome.rule) if is_refused else ("error", outcome.word)
         text = escape(rule_text(outcome.rule)) if is_refused else ""
-        self.cases.write(f"{start}>\n      <{tag} type={quoteattr(kind)} message={quoteattr(reason_text(outcome))}>"
-                         f"{text}</{tag}>\n    </testcase>\n")
+        self.cases.add(f"{start}>\n      <{tag} type={quoteattr(kind)} message={quoteattr(reason_text(outcome))}>"
+                       f"{text}</{tag}>\n    </testcase>\n")
 
     def end(self, summary: Summary) -> None:
         tests = sum(count for word, count in summary.words.items() if word != SKIPPED)
@@ -87,19 +87,19 @@ class Junit(Report):
         if summary.fault:
             tests, errors = tests + 1, errors + 1
             kind = "interrupted" if summary.signal else "failed"
-            self.cases.write(f'    <testcase classname="kesvuot.{self.profile}" name="all files">\n'
-                             f'      <error type="{kind}" message={quoteattr(summary.fault)}/>\n    </testcase>\n')
+            self.cases.add(f'    <testcase classname="kesvuot.{self.profile}" name="all files">\n'
+                           f'      <error type="{kind}" message={quoteattr(summary.fault)}/>\n    </testcase>\n')
         counts = f'tests="{tests}" failures="{failures}" errors="{errors}"'
         whole = (f'tests="{tests + self.suite.tests}" failures="{failures + self.suite.failures}" '
                  f'errors="{errors}"')
         self.write(f'<?xml version="1.0" encoding="UTF-8"?>\n<testsuites name="kesvuot" {whole}>\n'
                    f'  <testsuite name="kesvuot check, profile {self.profile}" {counts} '
                    f'skipped="{summary.words[OTHER_KIND] + summary.known}">\n')
-        copy_text(self.cases, self.write)
+        self.cases.write_to(self.write)
         self.write("  </testsuite>\n")
         if self.policy:
             self.write(self.suite.head(shown(self.policy.path)))
-            copy_text(self.suite.cases, self.write)
+            self.suite.cases.write_to(self.write)
             self.write("  </testsuite>\n")
         self.write("</testsuites>\n")
 

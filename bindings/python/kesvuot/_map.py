@@ -12,7 +12,7 @@ from ._check import NO_VERDICT, REFUSED, Choice, Outcome, Target, judge
 from ._explanation import Explanation, Part as FilePart
 from ._files import File, Refused
 from ._names import size_text
-from ._output import Output, WriteFailed, say
+from ._output import STANDARD_OUTPUT, Output, WriteFailed, say
 from ._parts import Part, parts_of
 from ._reading import Contents
 from ._paths import shown
@@ -25,7 +25,6 @@ PAGE, PLACE = "map.html", "@MAP@"
 # A page with more parts than this would keep a browser busy. Those of these kinds are drawn first.
 PART_LIMIT = 100_000
 FIRST_KINDS = frozenset(("slice", "slice not read", "segment", "headers", "unclaimed", "broken walk"))
-STANDARD_OUTPUT = "-"
 
 
 class Marks(NamedTuple):

@@ -7,10 +7,12 @@ import io
 import os
 import signal
 import sys
-from typing import Callable, NoReturn, Tuple
+from typing import Callable, Iterator, List, NoReturn, Tuple
 
 from ._progress import is_terminal
 
+# The name of standard output as a file.
+STANDARD_OUTPUT = "-"
 # What a terminal shows in which colour (ECMA-48).
 GREEN, RED, YELLOW, PLAIN = "\033[32m", "\033[31m", "\033[33m", "\033[0m"
 
@@ -84,6 +86,21 @@ def has_colours(stream: object) -> bool:
 
 def coloured(text: str, colour: str, stream: object) -> str:
     return f"{colour}{text}{PLAIN}" if has_colours(stream) else text
+
+
+# A row of a table.
+Cells = Tuple[str, ...]
+
+
+def columns(rows: Callable[[], Iterator[Cells]]) -> Iterator[str]:
+    """Rows with columns of one width. They are read twice, because there may be millions."""
+    widths: List[int] = []
+    for row in rows():
+        widths += [0] * (len(row) - len(widths))
+        for number, cell in enumerate(row):
+            widths[number] = max(widths[number], len(cell))
+    for row in rows():
+        yield ("  " + "  ".join(cell.ljust(width) for cell, width in zip(row, widths))).rstrip()
 
 
 def open_errors() -> None:

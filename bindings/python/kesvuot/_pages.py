@@ -3,7 +3,6 @@
 from __future__ import annotations
 
 import os
-from urllib.parse import urljoin
 
 from ._library import INSTALLED
 from ._paths import uri
@@ -21,6 +20,7 @@ class Pages:
 
     def link(self, section: str) -> str:
         """A section of a page, such as `rules/layout.md#magic`, or `guide/policies.md#keys` beside the rules."""
+        from urllib.parse import urljoin  # pylint: disable=import-outside-toplevel # it loads much, and links are few
         folder, _, page = section.partition("/")
         return f"{self._url()}/{page}" if folder == "rules" else urljoin(f"{self._url()}/", f"../{section}")
 

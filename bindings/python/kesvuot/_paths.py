@@ -4,7 +4,6 @@ from __future__ import annotations
 
 import os
 from typing import Dict
-from urllib.parse import quote
 
 from ._output import as_bytes
 
@@ -57,6 +56,7 @@ def located(path: str) -> str:
 
 def uri(path: str) -> str:
     """A path as a reference of a URI: from the folder of the run, if it is no absolute one."""
+    from urllib.parse import quote  # pylint: disable=import-outside-toplevel # it loads much, and links are few
     quoted = "!".join(quote(part.encode("utf-8", "surrogateescape"), safe="/") for part in path.split(SEPARATOR))
     while quoted.startswith("./"):
         quoted = quoted[2:].lstrip("/")

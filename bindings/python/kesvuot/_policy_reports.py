@@ -9,7 +9,7 @@ from ._check import ACCEPTED, NOT_BY_POLICY, Outcome
 from ._pages import PAGES
 
 if TYPE_CHECKING:
-    from ._policy import Policy, Unmet
+    from ._policy import Policy
 
 # What a line begins with.
 WORDS = f"{ACCEPTED}, but {NOT_BY_POLICY}"

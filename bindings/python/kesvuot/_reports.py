@@ -4,20 +4,15 @@ is kept, however many there are."""
 from __future__ import annotations
 
 import json
-import signal
-import tempfile
 from typing import TYPE_CHECKING, Any, Callable, Dict, Optional, Type
 
 from . import _policy_reports
 from ._check import (
     ACCEPTED, NO_VERDICT, NOT_BY_POLICY, OTHER_KIND, REFUSED, SKIPPED, UNSUPPORTED_SLICE, ExtraOfRefused, Outcome,
     Summary)
-from ._explanation import explain
-from ._files import Refused
 from ._output import AS_BYTES
 from ._pages import PAGES
-from ._paths import file_object, located, shown, uri
-from ._reading import Contents
+from ._paths import file_object, located, shown
 from ._rules import RULES, Rule
 
 if TYPE_CHECKING:
@@ -30,9 +25,6 @@ VERSION = "2.0.0"
 
 # The form of the objects of JSON. A field may be added without a new version.
 CHECK_VERSION = 1
-# SARIF has the faults after the files, and JUnit the counts before them. So much of what waits is kept in memory, and
-# the rest in a file.
-KEPT_IN_MEMORY = 1 << 20
 
 
 # With what stands in place of a rule for a file that --no-unsupported-slices refuses.
@@ -156,100 +148,6 @@ class Json(Report):
         self.write(f'\n  ],\n  "summary": {json.dumps(summary.object())}\n}}\n')
 
 
-def extent(data: Contents, refused: Refused) -> int:
-    """How many bytes of the file the structure at the place has from there on."""
-    found = explain(data, refused)
-    end = found.at.end if found and found.at else refused.place
-    return max(min(end, len(data)) - refused.place, 0)
-
-
-class Sarif(Report):
-    """SARIF 2.1.0: a result for each refused file and for each key of a policy that a file does not meet, and a
-    notification for each without a verdict. The region is one of bytes, because the files are no texts. It has a line
-    all the same, without which some consumers take no result."""
-
-    of_refused = staticmethod(extent)
-    SCHEMA = "https://json.schemastore.org/sarif-2.1.0.json"
-
-    def __init__(self, write: Write, profile: str) -> None:
-        super().__init__(write, profile)
-        self.separator = "\n        "
-        self.faults = tempfile.SpooledTemporaryFile(KEPT_IN_MEMORY, "w+", encoding="ascii")
-        self.numbers = {rule: number for number, rule in enumerate(RULES_AND_CHOICES)}
-
-    def begin(self) -> None:
-        rules = ",\n            ".join(map(json.dumps, [
-            *(self._rule(name, rule) for name, rule in self.rules.items()),
-            *_policy_reports.sarif_rules(self.policy)]))
-        properties = {"profile": self.profile, **({"policy": self.policy.path} if self.policy else {})}
-        self.write(f'{{\n  "$schema": "{self.SCHEMA}",\n  "version": "2.1.0",\n  "runs": [\n    {{\n'
-                   f'      "tool": {{\n        "driver": {{\n          "name": "kesvuot",\n'
-                   f'          "version": {json.dumps(VERSION)},\n          "rules": [\n'
-                   f'            {rules}\n          ]\n        }}\n      }},\n'
-                   f'      "properties": {json.dumps(properties)},\n      "results": [')
-
-    @staticmethod
-    def _rule(name: str, rule: Rule) -> Dict[str, Any]:
-        page = link(name)
-        # A helpUri is absolute.
-        uris = {"helpUri": page} if ":" in page else {}
-        return {"id": name, "name": name.title().replace("-", ""), **uris,
-                "shortDescription": {"text": name}, "fullDescription": {"text": rule_text(name)},
-                "help": {"text": f"Why: {rule.why}\nUsual cause: {rule.cause}\nWhat to do: {rule.remedy}\nSee {page}."},
-                "defaultConfiguration": {"level": "error"}}
-
-    def add(self, outcome: Outcome) -> None:
-        physical: Dict[str, Any] = {"artifactLocation": {"uri": uri(outcome.path)}}
-        location = {"physicalLocation": physical}
-        if outcome.word == REFUSED:
-            # Of a file that is only compressed, or whose refusal is known, no structure was looked for.
-            size = outcome.unsupported.size if outcome.unsupported else outcome.extra or 0
-            physical["region"] = {"byteOffset": outcome.place, "byteLength": size, "startLine": 1}
-            result = {"ruleId": outcome.rule, "ruleIndex": self.numbers[outcome.rule], "level": "error",
-                      "message": {"text": f"{reason_text(outcome)}. {rule_text(outcome.rule)}"},
-                      "locations": [location], "properties": {"kind": outcome.kind}}
-            if self.has_baseline:
-                result["baselineState"] = "unchanged" if outcome.is_known else "new"
-            self.write(self.separator + json.dumps(result))
-            self.separator = ",\n        "
-        elif outcome.word == NOT_BY_POLICY:
-            physical["region"] = {"startLine": 1}
-            for result in _policy_reports.sarif_results(outcome, self.policy, len(self.rules), location):
-                self.write(self.separator + json.dumps(result))
-                self.separator = ",\n        "
-        elif outcome.word == NO_VERDICT:
-            self._notify({"level": "error", "message": {"text": reason_text(outcome)}, "locations": [location]})
-
-    def _notify(self, fault: Dict[str, Any]) -> None:
-        before = ",\n            " if self.faults.tell() else "\n            "
-        self.faults.write(before + json.dumps(fault))
-
-    def end(self, summary: Summary) -> None:
-        name = signal.Signals(summary.signal).name if summary.signal else ""
-        signals = f'          "exitSignalName": "{name}",\n' if name else ""
-        is_done = summary.words[NO_VERDICT] == 0 and not summary.fault
-        if summary.fault:
-            self._notify({"level": "error", "message": {"text": summary.fault}})
-        self.write(f'\n      ],\n      "invocations": [\n        {{\n          "executionSuccessful": '
-                   f'{json.dumps(is_done)},\n          "exitCode": {summary.status},\n{signals}'
-                   '          "toolExecutionNotifications": [')
-        copy_text(self.faults, self.write)
-        self.write("\n          ]\n        }\n      ]\n    }\n  ]\n}\n")
-
-    def close(self) -> None:
-        self.faults.close()
-
-
-def copy_text(source: Any, write: Write) -> None:
-    """Writes all that a temporary file has."""
-    source.seek(0)
-    while True:
-        piece = source.read(1 << 16)
-        if not piece:
-            return
-        write(piece)
-
-
 class GitHub(Report):
     """A command of GitHub's workflows for each file that is not accepted, for each key of a policy that a file does not
     meet, and for a run that has failed; and the summary."""
@@ -282,10 +180,17 @@ def escaped(text: str) -> str:
     return text.replace("%", "%25").replace("\r", "%0D").replace("\n", "%0A")
 
 
-def junit() -> Type[Report]:
-    from ._junit import Junit  # pylint: disable=import-outside-toplevel # it needs this module
-    return Junit
+# The forms besides that for people.
+FORMS = ("json", "jsonl", "sarif", "junit", "github")
 
 
-REPORTS: Dict[str, Callable[[], Type[Report]]] = {
-    "json": lambda: Json, "jsonl": lambda: JsonLines, "sarif": lambda: Sarif, "junit": junit, "github": lambda: GitHub}
+def report_of(form: str) -> Type[Report]:
+    """The report in one of the forms. Two of them load much that no other needs."""
+    # pylint: disable=import-outside-toplevel
+    if form == "sarif":
+        from ._sarif import Sarif
+        return Sarif
+    if form == "junit":
+        from ._junit import Junit
+        return Junit
+    return {"json": Json, "jsonl": JsonLines, "github": GitHub}[form]

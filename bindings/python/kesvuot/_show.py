@@ -5,7 +5,7 @@ from __future__ import annotations
 import json
 from functools import partial
 from itertools import islice
-from typing import Any, Callable, Dict, Iterator, List, Optional, Tuple
+from typing import Any, Dict, Iterator, Optional
 
 from ._check import ACCEPTED, NO_VERDICT, Choice, Outcome, Target, judge
 from ._entitlements import Unreadable, entitlement_values
@@ -15,7 +15,7 @@ from ._layout import (
     signatures_of)
 from ._names import (
     FILETYPES, LIBRARIES, count_text, plain, platform_name, protection_text, signature_flags, size_text, version_text)
-from ._output import Output, say
+from ._output import Cells, Output, columns, say
 from ._paths import shown
 from ._reports import check_object, reason_text
 from .constants import LC_LOAD_DYLINKER, LC_RPATH
@@ -23,7 +23,6 @@ from .constants import LC_LOAD_DYLINKER, LC_RPATH
 # The form of the object of JSON (docs/layout.schema.json). A field may be added without a new version.
 LAYOUT_VERSION = 1
 
-Cells = Tuple[str, ...]
 
 # How many pieces of JSON are written at once.
 PIECES = 4096
@@ -78,17 +77,6 @@ def _slice_lines(part: Slice, has_all: bool) -> Iterator[str]:
         for rows in (_exports, _imports, _fixups) if has_all else ():
             yield ""
             yield from columns(partial(rows, part))
-
-
-def columns(rows: Callable[[], Iterator[Cells]]) -> Iterator[str]:
-    """Rows with columns of one width. They are read twice, because there may be millions."""
-    widths: List[int] = []
-    for row in rows():
-        widths += [0] * (len(row) - len(widths))
-        for number, cell in enumerate(row):
-            widths[number] = max(widths[number], len(cell))
-    for row in rows():
-        yield ("  " + "  ".join(cell.ljust(width) for cell, width in zip(row, widths))).rstrip()
 
 
 def _properties(image: Image) -> Iterator[Cells]:

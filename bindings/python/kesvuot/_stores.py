@@ -1,5 +1,8 @@
 """What `kesvuot check` has for stores: lists of names, manifests, what is known already, and more than one machine."""
 
+# A run that wants none of this loads none of it.
+# pylint: disable=import-outside-toplevel
+
 from __future__ import annotations
 
 import argparse
@@ -9,7 +12,6 @@ from typing import Any, Callable, Iterator
 
 from ._check import Choice, Outcome, judge_all, targets_of
 from ._lists import STANDARD_INPUT, names_in
-from ._manifest import Baseline, Manifest, conditions
 
 
 def add_words(parser: Any) -> None:
@@ -48,9 +50,12 @@ def _identifies(words: argparse.Namespace) -> bool:
 
 def for_store(choice: Choice, words: argparse.Namespace) -> Choice:
     """The choice, with what is known already."""
+    if not _identifies(words):
+        return choice
+    from ._manifest import Baseline, conditions
     path = words.baseline or words.since
     known = Baseline(path, conditions(choice), trusts_stamps=bool(words.since)) if path else None
-    return choice._replace(identifies=_identifies(words), known=known)
+    return choice._replace(identifies=True, known=known)
 
 
 def outcomes_of(words: argparse.Namespace, choice: Choice) -> Iterator[Outcome]:
@@ -59,7 +64,7 @@ def outcomes_of(words: argparse.Namespace, choice: Choice) -> Iterator[Outcome]:
     paths = chain(words.paths, listed)
     if not words.cluster:
         return judge_all(paths, choice, words.jobs)
-    from ._cluster import judge_on_cluster  # pylint: disable=import-outside-toplevel # it is seldom wanted
+    from ._cluster import judge_on_cluster
     return judge_on_cluster(targets_of(paths, choice), choice, words.cluster, is_ordered=words.format != "jsonl")
 
 
@@ -69,6 +74,7 @@ def manifest_of(words: argparse.Namespace, choice: Choice) -> Iterator[Callable[
     if not words.manifest:
         yield lambda _: None
         return
+    from ._manifest import Manifest
     manifest = Manifest(words.manifest, choice)
     try:
         yield manifest.add

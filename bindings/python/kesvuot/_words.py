@@ -1,9 +1,10 @@
-"""The words of the command, and what it does for them."""
+"""The words of the command, and what it does for them. What one command needs, and others do not, is loaded by it."""
+
+# pylint: disable=import-outside-toplevel
 
 from __future__ import annotations
 
 import argparse
-import json
 import os
 import signal
 import sys
@@ -12,21 +13,15 @@ from typing import TYPE_CHECKING, Any, Callable, Counter, Dict, Iterator, List, 
 from . import _check, _policy_reports, library_version
 from ._archives import MOST_UNPACKED
 from ._check import (
-    ACCEPTED, NO_VERDICT, NOT_BY_POLICY, OTHER_KIND, REFUSED, Choice, Outcome, Stopped, Summary, judge_all,
-    without_match)
-from ._diff import diff
-from ._explain import explain_file
-from ._files import File
+    ACCEPTED, NO_VERDICT, NOT_BY_POLICY, OTHER_KIND, REFUSED, Choice, Outcome, Stopped, Summary, without_match)
 from ._interrupts import Interrupts, end_at_interrupts
-from ._layout import slice_objects
-from ._map import STANDARD_OUTPUT, map_file
-from ._output import GREEN, RED, YELLOW, Output, coloured, end_by, open_errors, say, write_failed
+from ._output import (
+    GREEN, RED, STANDARD_OUTPUT, YELLOW, Output, coloured, columns, end_by, open_errors, say, write_failed)
 from ._profiles import DEFAULT, PROFILES
 from ._progress import Progress, is_terminal
 from ._pages import PAGES
-from ._paths import file_object, printable, shown
-from ._reports import REPORTS, RULES_AND_CHOICES, VERSION, Report, Write, reason_text
-from ._show import columns, show
+from ._paths import printable, shown
+from ._reports import FORMS, RULES_AND_CHOICES, VERSION, Report, Write, reason_text, report_of
 from ._stores import add_words, check_words, for_store, manifest_of, outcomes_of
 
 if TYPE_CHECKING:
@@ -115,79 +110,6 @@ class Text(Report):
             self.write("\n" + "".join(f"{line}\n" for line in columns(lambda: iter(rows))))
 
 
-# The forms of 1.0.0, without a command
-
-
-class Lines(Report):
-    """A line for each verdict."""
-
-    extra: _check.Extra = None
-
-    def __init__(self, write: Write, profile: str, has_heads: bool) -> None:
-        super().__init__(write, profile)
-        self.has_heads = has_heads
-
-    def add(self, outcome: Outcome) -> None:
-        if outcome.word == ACCEPTED:
-            self.write(f"{shown(outcome.path)}: accepted\n")
-        elif outcome.word == REFUSED:
-            self.write(f"{shown(outcome.path)}: refused: {outcome.refusal}\n")
-
-
-class Layouts(Lines):
-    """What macho-check prints of each file."""
-
-    extra = staticmethod(File.layout)
-
-    def add(self, outcome: Outcome) -> None:
-        if self.has_heads:
-            self.write(f"{shown(outcome.path)}:\n")
-        if outcome.word != NO_VERDICT:
-            self.write(outcome.extra if outcome.word == ACCEPTED else f"refused: {outcome.refusal}\n")
-
-
-class Objects(Lines):
-    """An object for each file."""
-
-    extra = staticmethod(slice_objects)
-
-    def add(self, outcome: Outcome) -> None:
-        answer: Dict[str, Any] = {**file_object(outcome.path), "verdict": outcome.word}
-        if outcome.word == ACCEPTED:
-            answer.update(slices=outcome.extra)
-        elif outcome.word == REFUSED:
-            answer.update(rule=outcome.rule, place=outcome.place)
-        else:
-            answer.update(verdict=None, error=outcome.reason)
-        self.write(json.dumps(answer) + "\n")
-
-
-def judge_files(words: argparse.Namespace) -> int:
-    """Judges files as 1.0.0 does: none is a folder, and there is no summary."""
-    output = Output()
-    report = words.form(output.write, "", len(words.files) > 1)
-    choice = Choice(words.profile, walks=False, extra=words.form.extra)
-    summary = Summary()
-    for outcome in judge_all(words.files, choice, jobs=1):
-        summary.add(outcome)
-        if outcome.word == NO_VERDICT:
-            say(f"{shown(outcome.path)}: {outcome.reason}")
-        report.add(outcome)
-    output.flush()
-    return summary.status
-
-
-def _files_words(words: List[str]) -> argparse.Namespace:
-    parser = argparse.ArgumentParser(prog="kesvuot", usage="kesvuot [--strict] [--json | --layout] FILE..")
-    parser.add_argument("--strict", dest="profile", action="store_const", const="strict")
-    form = parser.add_mutually_exclusive_group()
-    form.add_argument("--json", dest="form", action="store_const", const=Objects)
-    form.add_argument("--layout", dest="form", action="store_const", const=Layouts)
-    parser.add_argument("files", nargs="+", metavar="FILE")
-    parser.set_defaults(profile=DEFAULT, form=Lines, run=judge_files)
-    return parser.parse_args(words)
-
-
 # check
 
 
@@ -195,7 +117,7 @@ def check(words: argparse.Namespace) -> int:
     """Judges files and folders."""
     check_words(words)
     policy = _read_policy(words)
-    form = REPORTS[words.format]() if words.format in REPORTS else None
+    form = report_of(words.format) if words.format in FORMS else None
     output = Output(form.encoding, form.errors) if form else Output()
     report = form(output.write, words.profile) if form else Text(output.write, words.profile, words.quiet)
     if words.no_unsupported_slices:
@@ -231,8 +153,8 @@ def _read_policy(words: argparse.Namespace) -> Optional[Policy]:
     """The policy, if there is one. A malformed one is an error as a wrong option is."""
     if words.policy is None:
         return None
-    from ._policy import read_policy  # pylint: disable=import-outside-toplevel # only a policy needs them
-    from ._policy_values import Malformed  # pylint: disable=import-outside-toplevel
+    from ._policy import read_policy
+    from ._policy_values import Malformed
     parser: argparse.ArgumentParser = words.parser
     try:
         return read_policy(words.policy)
@@ -342,7 +264,7 @@ gzip, bzip2 or xz) it judges the members, in memory: nothing is written.""")
     _add_rules_url(parser)
     parser.add_argument("paths", nargs="*", metavar="PATH",
                         help="a file, a folder, an archive, or - for standard input")
-    parser.add_argument("--format", choices=("text", *REPORTS), default="text", help="how to print what is found: text "
+    parser.add_argument("--format", choices=("text", *FORMS), default="text", help="how to print what is found: text "
                         "(the default), json, jsonl, sarif, junit or github")
     parser.add_argument("--include", action="append", default=[], metavar="PATTERN",
                         help="in folders and archives, judge only files with such a name")
@@ -375,23 +297,27 @@ gzip, bzip2 or xz) it judges the members, in memory: nothing is written.""")
 
 
 def _explain(words: argparse.Namespace) -> int:
+    from ._explain import explain_file
     return explain_file(words.file, words.profile, words.json)
 
 
 def _show(words: argparse.Namespace) -> int:
+    from ._show import show
     return show(words.file, words.profile, words.json, words.all)
 
 
 def _diff(words: argparse.Namespace) -> int:
+    from ._diff import diff
     return diff(words.one, words.other, words.profile, words.json)
 
 
 def _map(words: argparse.Namespace) -> int:
+    from ._map import map_file
     return map_file(words.file, words.profile, words.output)
 
 
 def _policy(words: argparse.Namespace) -> int:
-    from ._policy_writer import write_policy  # pylint: disable=import-outside-toplevel # it needs much besides
+    from ._policy_writer import write_policy
     return write_policy(words.file, words.profile, words.json)
 
 
@@ -481,7 +407,7 @@ def _command_like(word: str) -> Optional[str]:
     """The command that a word may be meant to be, if it is the name of no file."""
     if os.path.lexists(word):
         return None
-    from difflib import get_close_matches  # pylint: disable=import-outside-toplevel # it is seldom wanted
+    from difflib import get_close_matches
     return next(iter(get_close_matches(word, COMMANDS, n=1, cutoff=0.75)), None)
 
 
@@ -492,7 +418,8 @@ def read_words(words: List[str]) -> argparse.Namespace:
             meant = _command_like(words[0])
             if meant:
                 make_parser().error(f"no command or file {words[0]!r}: did you mean {meant!r}?")
-            return _files_words(words)
+            from ._lines import files_words
+            return files_words(words)
         chosen, others = make_parser().parse_known_args(words)
         if others:
             chosen.parser.error(f"unrecognized arguments: {' '.join(others)}")
