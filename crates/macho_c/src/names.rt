@@ -131,7 +131,7 @@ fn arch_number(cputype: u32, cpusubtype: u32) -> u64
 }
 
 // The bytes before the last: none of no bytes.
-fn before_last(bytes: &'static [u8]) -> &'static [u8]
+pub(crate) fn before_last(bytes: &'static [u8]) -> &'static [u8]
     ensures { result.now ≡ take (length bytes.now - 1) bytes.now }
 {
     match bytes.split_last() {

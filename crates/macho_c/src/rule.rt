@@ -1,10 +1,11 @@
 //! The rules and the profiles by number.
 
-ghost use Rattle.std.specs.Prelude.{◌≡◌, ◌<◌, ◌-◌, ◌⊎◌, [], length, take, IfNone, IfSome};
+ghost use Rattle.std.specs.Prelude.{◌≡◌, ◌⊎◌, [], IfNone, IfSome};
 ghost use Rattle.macho_fields.specs.RuleList.{profile_name, profile_numbered};
 ghost use Rattle.macho_c.specs.RuleNumbers.{IsNumbered, IsNoNumber, IsProfileOf};
 ghost use Rattle.macho_c.specs.Status.{KESVUOT_OK, KESVUOT_NONE};
 
+use crate::names::before_last;
 use crate::status::{NONE, OK};
 use macho_fields::{Profile, Rule};
 
@@ -58,12 +59,4 @@ pub extern "C" fn kesvuot_find_profile(profile: u32, name: &mut &'static [u8]) -
             NONE
         }
     }
-}
-
-// The bytes before the last.
-fn before_last(text: &'static [u8]) -> &'static [u8]
-    requires { 0 < length text.now }
-    ensures { result.now ≡ take (length text.now - 1) text.now }
-{
-    &text[..text.len() - 1]
 }
