@@ -23,7 +23,6 @@ from .constants import LC_LOAD_DYLINKER, LC_RPATH
 # The form of the object of JSON (docs/layout.schema.json). A field may be added without a new version.
 LAYOUT_VERSION = 1
 
-
 # How many pieces of JSON are written at once.
 PIECES = 4096
 
