@@ -1,13 +1,22 @@
 use Rattle.std.proofs.Common.{◌≡◌, ◌∙◌, ◌+◌, length, Contains, refl, sym, ap, subst, arith}
 use Rattle.std.proofs.lemmas.Bool.{false≢true}
 use Rattle.macho_fields.specs.Bytes.{bytes_of}
+use Rattle.macho_fields.specs.FirstPlace.{IsLeastPlace}
 use Rattle.macho_fields.specs.Symbol.{stroff, nsyms}
 use Rattle.macho_fields.proofs.Lists.{contains_first, contains_later}
 use Rattle.macho_image.specs.declared.symtab.Symtab.{Symtab}
 use Rattle.macho_rules.proofs.SymbolItems.{symtab_first, symtab_read}
+use Rattle.macho_alike.specs.SymbolTotal.{PassesImage, BreaksSymbolTotal}
 use Rattle.macho_alike.proofs.NameLists.{begins_inside}
 use Rattle.macho_alike.proofs.SymbolTotals.{counted_none, counted_past, counted_more, table_rows, none_pass, found_pass, size_read}
+use Rattle.macho_alike.proofs.SymbolWalks.{nothing_at}
 use Rattle.macho_alike.proofs.symbol_total.symbol_total.Goals as goal
+
+-- Found without this answer, in half a minute.
+pub returns-in_err-symtab : goal.returns-in_err-symtab
+returns-in_err-symtab c =
+    let image = c.args.image.now in
+    subst (IsLeastPlace (BreaksSymbolTotal image)) (sym c.from_residual.ensures) (nothing_at image c.in_err-symtab.ensures (PassesImage image))
 
 pub loop-symbol-init : goal.loop-symbol-init
 loop-symbol-init c =

@@ -1,10 +1,17 @@
-use Rattle.std.proofs.Common.{◌∙◌}
+use Rattle.std.proofs.Common.{◌∙◌, sym, subst}
 use Rattle.std.proofs.lemmas.Bool.{both_ways}
+use Rattle.macho_fields.specs.FirstPlace.{IsLeastPlace}
 use Rattle.macho_rules.proofs.Searches.{search_next, search_found, search_ended}
 use Rattle.macho_rules.proofs.SymbolItems.{symbols_search, symtab_first, symtab_read}
 use Rattle.macho_alike.specs.Symbols.{BreaksSymbolKind, IsSeenTwice}
-use Rattle.macho_alike.proofs.SymbolWalks.{kinds_break}
+use Rattle.macho_alike.proofs.SymbolWalks.{kinds_break, no_kinds}
 use Rattle.macho_alike.proofs.symbols.symbol_kind.Goals as goal
+
+-- Found without this answer, in a minute.
+pub returns-in_err-symtab : goal.returns-in_err-symtab
+returns-in_err-symtab c =
+    let image = c.args.image.now in
+    subst (IsLeastPlace (BreaksSymbolKind image)) (sym c.from_residual.ensures) (no_kinds image c.in_err-symtab.ensures)
 
 pub loop-symbol-init : goal.loop-symbol-init
 loop-symbol-init c =

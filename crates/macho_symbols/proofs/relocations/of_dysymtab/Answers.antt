@@ -3,10 +3,10 @@ use Rattle.macho_fields.specs.Bytes.{bytes_of}
 use Rattle.macho_fields.specs.FirstPlace.{IsLeastPlace}
 use Rattle.macho_image.specs.Symbol.{dysymtab_at}
 use Rattle.macho_image.specs.declared.dysymtab.Dysymtab.{Dysymtab}
-use Rattle.macho_rules.proofs.OneCommand.{first_at}
+use Rattle.macho_rules.proofs.OneCommand.{first_at, no_first}
 use Rattle.macho_symbols.specs.Relocations.{InDysymtab, IsBadOf}
 use Rattle.macho_symbols.specs.declared.relocations.Owner.TheVariants as owners
-use Rattle.macho_symbols.proofs.RelocationWalks.{external_inside, local_inside, dysymtab_least, found_as}
+use Rattle.macho_symbols.proofs.RelocationWalks.{external_inside, local_inside, no_dysymtab, dysymtab_least, found_as}
 use Rattle.macho_symbols.proofs.relocations.of_dysymtab.Goals as goal
 
 pub first_bad-requires-clause-inside : goal.first_bad-requires-clause-inside
@@ -28,6 +28,14 @@ first_bad-requires-2-clause-inside c some =
     let size = ap length c.bytes-bytes.ensures.bytes in
     let fits = local_inside image c.requires.unbroken (IsBadOf image owners.Dysymtab) d first (subst (λ n. 0 < n) count some) in
     omega (arith, fits, start, count, size)
+
+-- Found without this answer, in a minute.
+pub returns-in_err-dysymtab : goal.returns-in_err-dysymtab
+returns-in_err-dysymtab c =
+    let image = c.args.image.now in
+    let bad = IsBadOf image owners.Dysymtab in
+    let first = no_first (dysymtab_at image) _ (sym c.in_err-dysymtab.was ∙ c.dysymtab.ensures) in
+    subst (IsLeastPlace (InDysymtab image bad)) (sym c.from_residual.ensures) (no_dysymtab image c.requires.unbroken bad (sym first))
 
 pub returns : goal.returns
 returns c =
