@@ -50,16 +50,35 @@ pub(crate) fn check_image(alloc: Global, image: &Image) -> Result<(), Refusal>
     Ok(())
 }
 
-// The rules before the rules about what a loader writes.
+// The rules of tables, of opcodes and of chained fixups.
 #[inline(never)]
 fn check_fixups(image: &Image) -> Result<(), Break>
     requires { NothingBreaks (Breaks image.now None) }
     ensures { Continues (BreaksImage image.now) Rule.ChainBind result }
 {
+    check_tables(image)?;
+    check_opcodes(image)?;
+    check_chains(image)
+}
+
+// The rules of repeated tables, and of the segments that back tables.
+fn check_tables(image: &Image) -> Result<(), Break>
+    requires { NothingBreaks (Breaks image.now None) }
+    ensures { Continues (BreaksImage image.now) Rule.HeaderHome result }
+{
     Linked::judge(image, Rule::TableRepeated, table_repeated(image))?;
     Linked::judge(image, Rule::FunctionVariants, function_variants(image))?;
     Linked::judge(image, Rule::TableHome, table_home(image))?;
     Linked::judge(image, Rule::HeaderHome, header_home(image))?;
+    Ok(())
+}
+
+// The rules of the opcodes that rebase and bind.
+fn check_opcodes(image: &Image) -> Result<(), Break>
+    requires layout { NothingBreaks (Breaks image.now None) }
+    requires kept { KeptBelow (BreaksImage image.now) (rank Rule.RebaseOpcode) }
+    ensures { Continues (BreaksImage image.now) Rule.BindNames result }
+{
     let StreamSurveys { rebases, binds } = StreamSurveys::of(image);
     Linked::judge(image, Rule::RebaseOpcode, rebases.opcode)?;
     Linked::judge(image, Rule::RebaseSlot, rebases.slot)?;
@@ -70,6 +89,15 @@ fn check_fixups(image: &Image) -> Result<(), Break>
     Linked::judge(image, Rule::BindSlot, binds.slot)?;
     Linked::judge(image, Rule::BindTotal, binds.total)?;
     Linked::judge(image, Rule::BindNames, binds.names)?;
+    Ok(())
+}
+
+// The rules of chained fixups.
+fn check_chains(image: &Image) -> Result<(), Break>
+    requires layout { NothingBreaks (Breaks image.now None) }
+    requires kept { KeptBelow (BreaksImage image.now) (rank Rule.ChainHeader) }
+    ensures { Continues (BreaksImage image.now) Rule.ChainBind result }
+{
     let fixups = ChainedFixups::of(image);
     let chains = ChainSurvey::of(image, &fixups);
     Linked::judge(image, Rule::ChainHeader, chains.header)?;
