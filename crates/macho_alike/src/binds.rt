@@ -26,7 +26,7 @@ use macho_tables::place::dyld_info;
 use std::alloc::{AllocError, Global};
 
 /// The library in which a name is looked up.
-#[derive(Clone, Copy, Debug, PartialEq, Eq)]
+#[derive(Clone, Copy, PartialEq, Eq)]
 pub enum Library {
     /// The one with this ordinal, from 1 on. 0 is the image itself.
     Ordinal(u64),
@@ -35,7 +35,7 @@ pub enum Library {
 }
 
 /// The library and the addend that the steps up to a place have set.
-#[derive(Clone, Copy, Debug, PartialEq, Eq)]
+#[derive(Clone, Copy)]
 pub struct Aim {
     /// Where names are looked up.
     pub library: Library,
@@ -82,7 +82,7 @@ impl Aim {
 }
 
 /// A pointer that an opcode binds.
-#[derive(Clone, Copy, Debug, PartialEq, Eq)]
+#[derive(Clone, Copy)]
 pub struct Bind {
     /// Where the opcode begins in the image.
     pub place: u64,
@@ -99,7 +99,7 @@ pub struct Bind {
 }
 
 /// What is compared of the binds of one slot.
-#[derive(Clone, Copy, Debug, PartialEq, Eq)]
+#[derive(Clone, Copy)]
 pub enum Compared {
     /// The names and the addends.
     Names,

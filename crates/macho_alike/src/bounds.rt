@@ -28,7 +28,7 @@ use macho_tables::fields::half_at;
 use std::alloc::{AllocError, Global};
 
 /// A pointer that fixups bind.
-#[derive(Clone, Copy, Debug, PartialEq, Eq)]
+#[derive(Clone, Copy)]
 pub struct Bound {
     /// Where the command of its segment begins in the image.
     pub segment: u64,

@@ -32,7 +32,7 @@ use std::alloc::{AllocError, Global};
 use std::cmp::Ordering;
 
 // Names that lead to a node of the trie.
-#[derive(Clone, Copy, Debug, PartialEq, Eq)]
+#[derive(Clone, Copy)]
 struct Branch {
     // Where the node begins in the trie.
     place: u64,
@@ -45,7 +45,7 @@ struct Branch {
 }
 
 // An export of the image itself: it is neither absolute nor a symbol of another library, and has no resolver.
-#[derive(Clone, Copy, Debug, PartialEq, Eq)]
+#[derive(Clone, Copy)]
 struct ImageExport {
     flags: u64,
     // It counts from the base.

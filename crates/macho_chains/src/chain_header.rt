@@ -33,7 +33,7 @@ const IMPORTS_FORMAT: u64 = 20;
 const SYMBOLS_FORMAT: u64 = 24;
 
 /// What the imports of chained fixups are.
-#[derive(Clone, Copy, Debug, PartialEq, Eq)]
+#[derive(Clone, Copy)]
 pub enum ImportFormat {
     /// `dyld_chained_import`.
     Import,
@@ -61,7 +61,7 @@ impl ImportFormat {
 }
 
 /// What the header says. An offset is one in the table.
-#[derive(Clone, Copy, Debug, PartialEq, Eq)]
+#[derive(Clone, Copy)]
 pub struct ChainHeader {
     /// Where the `dyld_chained_starts_in_image` begins.
     pub starts_offset: u32,

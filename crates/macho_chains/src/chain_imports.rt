@@ -19,7 +19,7 @@ use macho_tables::place::note_if;
 const SPECIAL_VALUES: u64 = 15;
 
 /// How an import is written: in the first bits of its structure.
-#[derive(Clone, Copy, Debug, PartialEq, Eq)]
+#[derive(Clone, Copy)]
 pub struct ImportBits {
     /// The size in bytes of the structure.
     pub size: u64,
@@ -63,7 +63,7 @@ impl ImportFormat {
 }
 
 /// The library that an import is from.
-#[derive(Clone, Copy, Debug, PartialEq, Eq)]
+#[derive(Clone, Copy)]
 pub enum Ordinal {
     /// The one with this ordinal, from 1 on. 0 is the image itself.
     Library(u64),
@@ -102,7 +102,7 @@ impl Ordinal {
 }
 
 /// An import.
-#[derive(Clone, Copy, Debug, PartialEq, Eq)]
+#[derive(Clone, Copy)]
 pub struct Import {
     /// The library in which its name is looked up.
     pub ordinal: Ordinal,
@@ -139,7 +139,7 @@ impl Import {
 }
 
 /// Where the imports first break each of their rules, as offsets in the table.
-#[derive(Clone, Copy, Debug)]
+#[derive(Clone, Copy)]
 pub struct ImportSurvey {
     /// The first import whose name does not end in the table, or 0 if the imports end past it.
     pub imports: Option<u64>,

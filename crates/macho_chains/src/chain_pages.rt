@@ -28,7 +28,7 @@ use macho_tables::place::{lesser, note_if};
 use macho_tables::segment::is_protected;
 
 /// Where the pointers of the chains first break each of their rules, as places in the image.
-#[derive(Clone, Copy, Debug)]
+#[derive(Clone, Copy)]
 pub struct PointerSurvey {
     /// The first pointer whose next one may not be there, or the first page start with no place for a pointer.
     pub slot: Option<u64>,
@@ -151,7 +151,7 @@ fn segment_survey(
 }
 
 // What the pointers of a segment are compared with.
-#[derive(Clone, Copy, Debug)]
+#[derive(Clone, Copy)]
 struct ChainLimits {
     // The offset up to which a loader can write the segment as it is in the file.
     room: u64,
@@ -185,7 +185,7 @@ fn room_beside(image: &Image, segment: &Segment, encryption: Encryption) -> u64
 
 // The commands of an image with encrypted ranges. If there are several, no segment has room for pointers, so only the
 // first one is ever compared with a segment.
-#[derive(Clone, Copy, Debug)]
+#[derive(Clone, Copy)]
 struct Encryption<'a> {
     // The first of them.
     first: Option<Command<'a>>,

@@ -6,7 +6,7 @@ use crate::chain_starts::PointerFormat;
 use macho_fields::{Bytes, Order};
 
 /// How the bits of a pointer say where the next one is, and what is bound.
-#[derive(Clone, Copy, Debug, PartialEq, Eq)]
+#[derive(Clone, Copy)]
 pub struct PointerBits {
     /// From which bit on they are `next`.
     pub next_shift: u32,
@@ -55,7 +55,7 @@ impl PointerFormat {
 }
 
 /// What a pointer of a chain says.
-#[derive(Clone, Copy, Debug, PartialEq, Eq)]
+#[derive(Clone, Copy)]
 pub struct ChainPointer {
     /// How many bytes further the next pointer begins. It is 0 in the last one.
     pub distance: u64,

@@ -30,7 +30,7 @@ const SEGMENT_OFFSET: u64 = 8;
 const PAGE_COUNT: u64 = 20;
 
 /// How the bits of a pointer say where the next one is, and what is bound.
-#[derive(Clone, Copy, Debug, PartialEq, Eq)]
+#[derive(Clone, Copy)]
 pub enum PointerFormat {
     /// `DYLD_CHAINED_PTR_64` and `DYLD_CHAINED_PTR_64_OFFSET`.
     Pointer64,
@@ -60,7 +60,7 @@ impl PointerFormat {
 }
 
 /// Where the chains of a segment begin. (`dyld_chained_starts_in_segment`)
-#[derive(Clone, Copy, Debug, PartialEq, Eq)]
+#[derive(Clone, Copy)]
 pub struct SegmentStarts {
     /// Where the structure begins.
     pub offset: u64,

@@ -18,7 +18,7 @@ use macho_tables::limits::library_count;
 use macho_tables::place::{bounded_at, first_place, place_from};
 
 /// The chained fixups of an image.
-#[derive(Clone, Copy, Debug)]
+#[derive(Clone, Copy)]
 pub struct ChainedFixups<'a> {
     /// Where the command begins that names them, if there is one.
     pub command: Option<u64>,
@@ -27,7 +27,7 @@ pub struct ChainedFixups<'a> {
 }
 
 /// A table of chained fixups whose header is known.
-#[derive(Clone, Copy, Debug)]
+#[derive(Clone, Copy)]
 pub struct Chains<'a> {
     /// Where it begins in the image.
     pub start: u64,
@@ -38,7 +38,7 @@ pub struct Chains<'a> {
 }
 
 /// A table of chained fixups.
-#[derive(Clone, Copy, Debug)]
+#[derive(Clone, Copy)]
 pub struct ChainTable<'a> {
     /// Where it begins in the image.
     pub start: u64,
@@ -100,7 +100,7 @@ impl<'a> ChainTable<'a> {
 }
 
 /// Where the chained fixups first break each of their rules.
-#[derive(Clone, Copy, Debug)]
+#[derive(Clone, Copy)]
 pub struct ChainSurvey {
     /// The start of the table, if it has no header, or the command that names it, if it has no bytes.
     pub header: Option<u64>,

@@ -17,7 +17,7 @@ use macho_fields::header::loader::{
 use macho_fields::{TableFields, Width};
 
 /// What a command holds besides the fields of its structure, or names by them.
-#[derive(Clone, Copy, Debug, PartialEq, Eq)]
+#[derive(Clone, Copy)]
 pub enum Holding {
     /// Nothing.
     Nothing,
@@ -36,7 +36,7 @@ pub enum Holding {
 }
 
 /// What a held command has: one that `mach-o/loader.h` defines, and that no other rule judges.
-#[derive(Clone, Copy, Debug, PartialEq, Eq)]
+#[derive(Clone, Copy)]
 pub struct Content {
     /// The size in bytes of its structure.
     pub size: u64,

@@ -12,7 +12,7 @@ use macho_fields::header::thread_status::{
 };
 
 /// The flavor and the number of words with which a state begins.
-#[derive(Clone, Copy, Debug, PartialEq, Eq)]
+#[derive(Clone, Copy, PartialEq, Eq)]
 pub struct StateHeader {
     /// Which state it is.
     pub flavor: u32,
@@ -21,7 +21,7 @@ pub struct StateHeader {
 }
 
 /// What a state with registers has.
-#[derive(Clone, Copy, Debug, PartialEq, Eq)]
+#[derive(Clone, Copy)]
 pub struct Registers {
     /// The number of its words.
     pub count: u32,

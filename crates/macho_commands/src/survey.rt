@@ -9,7 +9,7 @@ use macho_fields::Bytes;
 use macho_image::{Command, Image};
 
 /// Where the commands of an image first break each of their rules: the place of the command.
-#[derive(Clone, Copy, Debug)]
+#[derive(Clone, Copy)]
 pub struct CommandSurvey {
     /// A thread that comes after another, or names no entry.
     pub thread: Option<u64>,

@@ -13,7 +13,7 @@ use macho_fields::{Bytes, Span};
 use macho_tables::numbers::read_uleb;
 
 /// What a name is exported as.
-#[derive(Clone, Copy, Debug, PartialEq, Eq)]
+#[derive(Clone, Copy)]
 pub struct Export {
     /// The flags.
     pub flags: u64,
@@ -22,7 +22,7 @@ pub struct Export {
 }
 
 /// What an exported name leads to.
-#[derive(Clone, Copy, Debug, PartialEq, Eq)]
+#[derive(Clone, Copy)]
 pub enum Target {
     /// An address.
     Address {
@@ -108,7 +108,7 @@ impl Export {
 }
 
 /// An edge of a node.
-#[derive(Clone, Copy, Debug, PartialEq, Eq)]
+#[derive(Clone, Copy)]
 pub struct ExportEdge {
     /// The part of a name that leads along it, without the zero byte that ends it.
     pub label: Span,
@@ -151,7 +151,7 @@ impl ExportEdge {
 }
 
 /// A node, by what it begins with. Its edges follow.
-#[derive(Clone, Copy, Debug, PartialEq, Eq)]
+#[derive(Clone, Copy)]
 pub struct ExportNode {
     /// The terminal part. It is empty if no name ends at the node.
     pub terminal: Span,

@@ -18,7 +18,7 @@ pub struct Waiting {
 }
 
 /// A node that is met.
-#[derive(Clone, Copy, Debug, PartialEq, Eq)]
+#[derive(Clone, Copy)]
 pub struct MetNode {
     /// The terminal part.
     pub terminal: Span,

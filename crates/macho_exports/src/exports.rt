@@ -37,7 +37,7 @@ const LEAST_SPECIAL_ORDINAL: u64 = u64::MAX - 2;
 
 /// Where the export trie of an image first breaks each of its rules: the least place of a node that is met in a
 /// walk from the root.
-#[derive(Clone, Copy, Debug)]
+#[derive(Clone, Copy)]
 pub struct ExportSurvey {
     /// The node that does not end in the table, or the end of the table if the node would be past that.
     pub node: Option<u64>,
@@ -202,7 +202,7 @@ fn survey(alloc: Global, image: &Image, trie: Bytes) -> Result<ExportSurvey, All
 }
 
 // Which rules the terminal part of a node breaks.
-#[derive(Clone, Copy, Debug, PartialEq, Eq)]
+#[derive(Clone, Copy)]
 struct NodeBreaks {
     // It is not an export, or not read exactly to its end.
     terminal: bool,

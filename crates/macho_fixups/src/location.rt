@@ -11,7 +11,7 @@ use macho_rows::load::{Wanted, next_wanted};
 use macho_tables::limits::{POINTER_SIZE, SEGMENTS};
 
 /// The memory and the bytes of a segment.
-#[derive(Clone, Copy, Debug, PartialEq, Eq)]
+#[derive(Clone, Copy)]
 pub struct Room {
     /// Its first address.
     pub vmaddr: u64,

@@ -11,7 +11,7 @@ use macho_opcodes::step::{Opcodes, Step, step_at};
 use macho_tables::limits::POINTER_SIZE;
 
 /// What the opcodes up to a place have set.
-#[derive(Clone, Copy, Debug, PartialEq, Eq)]
+#[derive(Clone, Copy)]
 pub struct Walk {
     /// The segment, the offset in it and the name.
     pub cursor: Cursor,
@@ -24,7 +24,7 @@ pub struct Walk {
 }
 
 /// An opcode that writes pointers.
-#[derive(Clone, Copy, Debug, PartialEq, Eq)]
+#[derive(Clone, Copy)]
 pub struct Write {
     /// What the opcodes before it have set.
     pub walk: Walk,
@@ -35,7 +35,7 @@ pub struct Write {
 }
 
 /// An opcode that writes pointers, and the first place past it.
-#[derive(Clone, Copy, Debug)]
+#[derive(Clone, Copy)]
 pub struct Reached {
     pub write: Write,
     pub next: u64,

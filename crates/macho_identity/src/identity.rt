@@ -24,7 +24,7 @@ pub const EXEC_SEG_FLAGS: u64 = 80;
 pub const RUNTIME: u64 = 88;
 
 /// How a program is to run, as a code directory says. A field that its version lacks is 0.
-#[derive(Clone, Copy, Debug, PartialEq, Eq)]
+#[derive(Clone, Copy, PartialEq, Eq)]
 pub struct Settings {
     /// The flags of the signature.
     pub flags: u32,

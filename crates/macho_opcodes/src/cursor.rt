@@ -7,7 +7,7 @@ use macho_fields::Span;
 use macho_tables::limits::POINTER_SIZE;
 
 /// What the steps up to a place have set.
-#[derive(Clone, Copy, Debug, PartialEq, Eq)]
+#[derive(Clone, Copy)]
 pub struct Cursor {
     /// The index of the segment that is written, if one is set.
     pub segment: Option<u8>,

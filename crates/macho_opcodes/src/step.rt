@@ -12,7 +12,7 @@ use macho_tables::limits::POINTER_SIZE;
 use macho_tables::numbers::{read_sleb, read_uleb};
 
 /// A stream of opcodes, by what they are.
-#[derive(Clone, Copy, Debug, PartialEq, Eq)]
+#[derive(Clone, Copy)]
 pub enum Opcodes {
     /// Rebases.
     Rebase,
@@ -23,7 +23,7 @@ pub enum Opcodes {
 }
 
 /// What one opcode says.
-#[derive(Clone, Copy, Debug, PartialEq, Eq)]
+#[derive(Clone, Copy)]
 pub enum Step {
     /// The stream ends, with the zeros that follow; in the lazy stream an entry ends.
     Done,

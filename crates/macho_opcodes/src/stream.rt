@@ -14,7 +14,7 @@ use macho_tables::limits::{
 use macho_tables::place::note_if;
 
 /// What the rules of a stream compare its steps with.
-#[derive(Clone, Copy, Debug, PartialEq, Eq)]
+#[derive(Clone, Copy)]
 pub struct Limits {
     /// How many bytes of each of the first segments can be written, from its start on.
     pub rooms: [u64; SEGMENTS],
@@ -25,7 +25,7 @@ pub struct Limits {
 }
 
 /// Where a stream first breaks each of its rules, as an offset in the stream.
-#[derive(Clone, Copy, Debug)]
+#[derive(Clone, Copy)]
 pub struct StreamSurvey {
     /// The first opcode that says nothing.
     pub opcode: Option<u64>,

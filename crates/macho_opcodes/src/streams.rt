@@ -19,7 +19,7 @@ use macho_tables::homes::span_of;
 use macho_tables::place::{bounded_at, dyld_info, lesser, place_from};
 
 /// Where the streams of an image first break each of their rules, as places in the image.
-#[derive(Clone, Copy, Debug)]
+#[derive(Clone, Copy)]
 pub struct StreamSurveys {
     /// Of the rebase stream.
     pub rebases: StreamSurvey,
@@ -109,7 +109,7 @@ fn survey_of(image: &Image, command: u64, stream: Stream, limits: &Limits) -> St
 }
 
 /// A stream, by the fields of its command that bound it.
-#[derive(Clone, Copy, Debug, PartialEq, Eq)]
+#[derive(Clone, Copy)]
 pub enum Stream {
     /// `rebase_off` and `rebase_size`.
     Rebase,

@@ -17,7 +17,7 @@ use sha2::{Digest as Hasher, Sha256, Sha384};
 const SHORT_LEN: usize = CS_CDHASH_LEN as usize;
 
 /// A digest, by its type.
-#[derive(Clone, Copy, Debug, PartialEq, Eq)]
+#[derive(Clone, Copy)]
 pub enum Digest {
     /// By SHA-1. (`CS_HASHTYPE_SHA1`)
     Sha1([u8; 20]),

@@ -44,7 +44,7 @@ pub const LINKAGE_OFFSET: u64 = 100;
 pub const LINKAGE_SIZE: u64 = 104;
 
 /// A code directory. (`CS_CodeDirectory`)
-#[derive(Clone, Copy, Debug, PartialEq, Eq)]
+#[derive(Clone, Copy)]
 pub struct CodeDirectory {
     /// Its version, which says what fields it has.
     pub version: u32,

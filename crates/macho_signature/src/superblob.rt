@@ -25,7 +25,7 @@ pub const OFFSET: u64 = 4;
 pub const LENGTH: u64 = 4;
 
 /// The superblob of a signature. (`CS_SuperBlob`)
-#[derive(Clone, Copy, Debug, PartialEq, Eq)]
+#[derive(Clone, Copy)]
 pub struct Superblob {
     /// Its size in bytes, with its index and its blobs.
     pub length: u32,
@@ -34,7 +34,7 @@ pub struct Superblob {
 }
 
 /// A blob of a signature, and its slot. (`CS_BlobIndex`, `CS_GenericBlob`)
-#[derive(Clone, Copy, Debug, PartialEq, Eq)]
+#[derive(Clone, Copy)]
 pub struct Blob {
     /// What it is in the signature, as `CSSLOT_CODEDIRECTORY` and the constants beside it say.
     pub slot: u32,

@@ -15,7 +15,7 @@ use macho_tables::data_table::data_table;
 use macho_tables::place::{note_if, place_from};
 
 /// Where the code signature of an image first breaks each of its rules.
-#[derive(Clone, Copy, Debug)]
+#[derive(Clone, Copy)]
 pub struct SignatureSurvey {
     /// The signature, if it has no superblob that ends in it, or the first entry of the index whose blob begins
     /// before the blob before it ends, or does not end in the superblob.
