@@ -9,7 +9,7 @@ use Rattle.macho_fields.specs.LoadCommands.{structure_of}
 use Rattle.macho_fields.specs.Image.{command_cmd, command_size, commands_end, commands_of, IsGood}
 use Rattle.macho_fields.specs.Rules.{BreaksHeader, BreaksCommands, BreaksImage}
 use Rattle.macho_fields.specs.First.{rank}
-use Rattle.macho_fields.specs.Layers.{Continues}
+use Rattle.macho_fields.specs.Layers.{Continues, StopsAt}
 use Rattle.macho_fields.specs.declared.rule.Rule.{Rule}
 use Rattle.macho_fields.specs.declared.rule.Rule.TheVariants as rule
 use Rattle.macho_fields.specs.declared.rule.Break.{Break}
@@ -192,3 +192,11 @@ module _ {T : Type 0} (image : List ℕ) (arch : Option (ℕ × ℕ)) (r : Rule)
   judged (Some first) (Err b) ((p, has, here, at), least) (named, place) =
       commands_broken image arch r never late kept b named (subst (BreaksCommands image (commands_of image) r) (at ∙ sym place) (to p (has, here)))
       (λ other broken. let (has_other, here_other) = from other broken in let low : first ≤ other = least other has_other here_other in omega (arith, place, low))
+
+-- what answers by the first place stops at its rule
+pub judged_stops : {T : Type 0} (r : Rule) (found : Option ℕ) (result : Result T Break) → MatchOption found (IsOk result) (λ place. IsErrAnd result (λ b. (b.rule ≡ r) × (b.place ≡ place)))
+    → StopsAt r result
+judged_stops r None (Ok x) ok = tt
+judged_stops r None (Err b) ok = absurd (false≢true ok)
+judged_stops r (Some first) (Ok x) err = tt
+judged_stops r (Some first) (Err b) (named, place) = let same = ap rank named in omega (arith, same)
