@@ -23,7 +23,7 @@ const BLOCK: usize = 64;
 const LARGE_BLOCK: usize = 256;
 
 /// The order of the bytes of a field.
-#[derive(Clone, Copy, Debug, PartialEq, Eq)]
+#[derive(Clone, Copy)]
 pub enum Order {
     /// The most significant byte first, as in a universal header.
     Big,
@@ -33,7 +33,7 @@ pub enum Order {
 
 /// The bytes of a file, or of a slice of one. A field is read by its place: the offset in bytes at
 /// which it begins.
-#[derive(Clone, Copy, Debug, PartialEq, Eq)]
+#[derive(Clone, Copy)]
 pub struct Bytes<'a> {
     bytes: &'a [u8],
 }

@@ -7,7 +7,7 @@ ghost use Rattle.macho_fields.specs.FileTypes.{file_type_of, file_type_view};
 use crate::header::loader;
 
 /// What an image is.
-#[derive(Clone, Copy, Debug, PartialEq, Eq)]
+#[derive(Clone, Copy)]
 pub enum Kind {
     // registry: kinds
     /// `MH_EXECUTE`: an executable, which is run as a program.
@@ -20,7 +20,7 @@ pub enum Kind {
 }
 
 /// A filetype that is judged.
-#[derive(Clone, Copy, Debug, PartialEq, Eq)]
+#[derive(Clone, Copy)]
 pub struct FileType {
     /// The `filetype` in the header.
     pub number: u32,

@@ -4,7 +4,7 @@ use crate::rule::{Break, Rule};
 use std::marker::Model;
 
 /// The first of the places that a walk has noted: those at which one rule is broken.
-#[derive(Clone, Copy, Debug)]
+#[derive(Clone, Copy)]
 pub struct FirstPlace {
     place: Option<u64>,
 }

@@ -11,7 +11,7 @@ use crate::header::loader::*;
 use crate::header::{loader, nlist, reloc};
 
 /// The structure of a load command, named as `mach-o/loader.h` names it.
-#[derive(Clone, Copy, Debug, PartialEq, Eq)]
+#[derive(Clone, Copy, PartialEq, Eq)]
 pub enum Structure {
     // registry: structures
     /// `symtab_command`
@@ -44,7 +44,7 @@ pub enum Structure {
 }
 
 /// The records that follow a structure.
-#[derive(Clone, Copy, Debug, PartialEq, Eq)]
+#[derive(Clone, Copy)]
 pub struct Records {
     /// The offset in the command of the 32-bit field with their number.
     pub count: u64,
@@ -53,7 +53,7 @@ pub struct Records {
 }
 
 /// How wide a field is.
-#[derive(Clone, Copy, Debug, PartialEq, Eq)]
+#[derive(Clone, Copy)]
 pub enum Width {
     /// 32 bits, a `uint32_t`.
     Uint32,
@@ -91,7 +91,7 @@ impl Width {
 }
 
 /// The two fields of a structure that bound a table of the image, and the size of its items.
-#[derive(Clone, Copy, Debug, PartialEq, Eq)]
+#[derive(Clone, Copy)]
 pub struct TableFields {
     /// The offset in the command of the field with the place of the table.
     pub place: u64,

@@ -11,7 +11,7 @@ use std::fmt::{InlineText, Write};
 
 /// A set of rules that one verdict judges. Each profile is judged where a file breaks no rule of the
 /// profiles before it. The number of a profile never changes, and 0 is the number of none.
-#[derive(Clone, Copy, Debug, PartialEq, Eq)]
+#[derive(Clone, Copy)]
 pub enum Profile {
     // registry: profiles
     /// A loader that follows the headers and checks no bounds reads only bytes of the slice.
@@ -754,7 +754,7 @@ fn without_zero(name: &'static str) -> &'static str
 
 /// A broken rule, and the place at which it is broken: an offset in bytes from the start of the
 /// file, or of the image where an image alone is judged.
-#[derive(Clone, Copy, Debug, PartialEq, Eq)]
+#[derive(Clone, Copy, Debug)]
 pub struct Break {
     /// The rule that is broken.
     pub rule: Rule,

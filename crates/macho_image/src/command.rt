@@ -13,7 +13,7 @@ use macho_fields::{Bytes, Order, Span};
 use std::marker::Model;
 
 /// A load command. (`load_command`)
-#[derive(Clone, Copy, Debug)]
+#[derive(Clone, Copy)]
 pub struct Command<'a> {
     /// Where it begins in the image.
     pub place: u64,
