@@ -91,11 +91,6 @@ module _ (image : List ℕ) (unbroken : (place : ℕ) → ¬ BreaksOpcodeBindOnc
 abbrev AreApart : ℕ → ℕ → Type 0
 AreApart one other = (one ≡ other) ⊎ ((one + 8 ≤ other) ⊎ (other + 8 ≤ one))
 
-apart_both_ways : (one other : ℕ) → AreApart one other → AreApart other one
-apart_both_ways one other (inl same) = inl (sym same)
-apart_both_ways one other (inr (inl below)) = inr (inr below)
-apart_both_ways one other (inr (inr above)) = inr (inl above)
-
 module _ (image chains : List ℕ) (segment : ℕ) (starts : SegmentStarts) where
   module _ (page : ℕ) where
     abbrev distance : ℕ → ℕ

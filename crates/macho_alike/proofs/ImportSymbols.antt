@@ -26,9 +26,6 @@ pub breaks_where : (image : List ℕ) (P : ℕ → Type 0) → IsTwoLevel image 
 breaks_where image P two None none = λ place broken. none place broken.1
 breaks_where image P two (Some first) (here, least) = ((two, here), λ place broken. least place broken.1)
 
-pub breaks_nowhere : (image : List ℕ) → ¬ IsTwoLevel image → (place : ℕ) → ¬ BreaksImportLibrary image place
-breaks_nowhere image flat place broken = flat broken.0
-
 -- These symbols are left, and the others are from no other library.
 pub record AreLeft (image : List ℕ) (all left : List Symbol) (symtab : ℕ) : Type 0 where
   pub first : first_with_cmd image loader.LC_SYMTAB (commands_of image) ≡ Some symtab

@@ -16,7 +16,7 @@ use Rattle.macho_image.specs.Command.{first_with_cmd}
 use Rattle.macho_image.specs.Symbol.{symbol_at, symtab_at}
 use Rattle.macho_image.specs.declared.symbol.Symbol.{Symbol}
 use Rattle.macho_alike.specs.declared.symbols.Readers.{Readers}
-use Rattle.macho_rules.proofs.OneCommand.{none_with_cmd}
+use Rattle.macho_rules.proofs.OneCommand.{no_first, none_with_cmd}
 use Rattle.macho_rules.proofs.Searches.{Searching}
 use Rattle.macho_rules.proofs.SymbolItems.{AreSymbols}
 use Rattle.macho_rules.proofs.TableItems.{items_break, table_inside}
@@ -48,11 +48,7 @@ pub record AreLeft (image : List ℕ) (readers : Readers) (all left : List Symbo
 
 -- an image without a symbol table has no symbols
 pub nothing_at : (image : List ℕ) → None ≡ option_map (symtab_at image) (first_with_cmd image loader.LC_SYMTAB (commands_of image)) → (P : ℕ → ℕ → Type 0) (place : ℕ) → ¬ AtSymbol image (commands_of image) P place
-nothing_at image none P place (i, c, inside, at_i, _) = none_with_cmd image loader.LC_SYMTAB (no_first (first_with_cmd image loader.LC_SYMTAB (commands_of image)) none) c (i, inside, at_i)
-  where
-    no_first : (first : Option ℕ) → None ≡ option_map (symtab_at image) first → first ≡ None
-    no_first None e = refl
-    no_first (Some d) e = absurd (cc)
+nothing_at image none P place (i, c, inside, at_i, _) = none_with_cmd image loader.LC_SYMTAB (no_first (symtab_at image) (first_with_cmd image loader.LC_SYMTAB (commands_of image)) none) c (i, inside, at_i)
 
 pub no_kinds : (image : List ℕ) → None ≡ option_map (symtab_at image) (first_with_cmd image loader.LC_SYMTAB (commands_of image)) → (place : ℕ) → ¬ BreaksSymbolKind image place
 no_kinds image none = nothing_at image none (λ symtab symbol. IsSeenTwice image symtab (symbol_at image symbol))

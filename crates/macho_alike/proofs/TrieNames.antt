@@ -12,7 +12,7 @@ use Rattle.std.proofs.lemmas.List.{get_or_default}
 use Rattle.std.proofs.lemmas.List.Elements.{Contains-get_or}
 use Rattle.std.proofs.lemmas.Option.{same_Some, none-some}
 use Rattle.macho_fields.proofs.Lists.{any_of}
-use Rattle.macho_fields.proofs.Options.{some_of, of_some, some_has, of_none}
+use Rattle.macho_fields.proofs.Options.{some_of, of_some, some_has}
 use Rattle.macho_fields.specs.Field.{part, string_from}
 use Rattle.macho_fields.specs.FirstPlace.{IsLeastPlace}
 use Rattle.macho_fields.specs.Image.{commands_of, with_cmd}
@@ -196,9 +196,3 @@ module _ (image : List ℕ) (names : List Named) (named : (one : Named) → Cont
 
   pub trie_listed : (found : Option ℕ) → IsLeastPlace (IsUnlikeAt image trie names base) found → IsLeastPlace (BreaksTrieSymbol image) found
   trie_listed found least = least_same (IsUnlikeAt image trie names base) (BreaksTrieSymbol image) found (λ place. (to_rule place, from_rule place)) least
-
--- without a trie no symbol breaks the rule
-pub trie_none : (image : List ℕ) → export_table image ≡ None → IsLeastPlace (BreaksTrieSymbol image) None
-trie_none image none = λ place broken.
-    let (symtab, has, (index, few, at_index, (external, (export, address, exported_as, is_at, unlike)))) = one_of _ (with_cmd image loader.LC_SYMTAB (commands_of image)) broken in
-    of_none (λ t. find_export (part t.start t.len image) (name_of image symtab (symbol_at image place)) ≡ Some export) (export_table image) none exported_as

@@ -16,18 +16,12 @@ use Rattle.macho_c.specs.declared.data_in_code.KesvuotDataInCode.{KesvuotDataInC
 use Rattle.macho_rows.specs.declared.image.KesvuotImage.{KesvuotImage}
 use Rattle.macho_rows.proofs.AllSymbols.{unbroken, no_items, items_counted}
 use Rattle.macho_c.proofs.NamedData.{named, data_inside, cases_fits}
-use Rattle.macho_c.proofs.Relocated.{none_outside}
 
 -- none remain
 pub none_left : (place : ℕ) (image : List ℕ) (before at : KesvuotCursor) → at ≡ begun (first_entry image) before → at.items ≡ 0
     → entries_left place image before ≡ []
 none_left place image before at begins none =
     ap (entries_at place image) (sym begins) ∙ (ap (λ n. map (entry_row place image) (items_inside image at.place 8 n)) none ∙ ap (map (entry_row place image)) (no_items image at.place 8))
-
-pub outside_left : (place : ℕ) (image : List ℕ) (before at : KesvuotCursor) → at ≡ begun (first_entry image) before → length image < at.place + at.items * 8
-    → entries_left place image before ≡ []
-outside_left place image before at begins past =
-    ap (entries_at place image) (sym begins) ∙ none_outside (entry_row place image) image at.place 8 at.items 0 past
 
 -- the next entry, and the cursor past it
 pub next_left : (place : ℕ) (image : List ℕ) (before at after : KesvuotCursor) → at ≡ begun (first_entry image) before → 0 < at.items → at.place + at.items * 8 ≤ length image

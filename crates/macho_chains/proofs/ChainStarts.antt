@@ -9,7 +9,7 @@ use Rattle.macho_chains.specs.ChainStarts.{seg_info_offset, starts_of, starts_en
 use Rattle.macho_tables.specs.Items.{IsFirstItem}
 use Rattle.macho_chains.specs.declared.chain_header.ChainHeader.{ChainHeader}
 use Rattle.macho_chains.specs.declared.chain_starts.SegmentStarts.{SegmentStarts}
-use Rattle.macho_tables.proofs.SegmentWalks.{ArePassed, passed_none, passed_more, passed_all}
+use Rattle.macho_tables.proofs.SegmentWalks.{ArePassed, passed_more, passed_all}
 
 module _ (chains : List ℕ) (header : ChainHeader) where
   -- those that an entry names
@@ -85,14 +85,6 @@ pub record AreWalked (image chains : List ℕ) (header : ChainHeader) (all left 
   pub few : index ≤ count
   pub good : (k : ℕ) → k < index → ¬ HasBadStarts image chains header k
   pub reach : IsReach chains header index far
-
-pub starts_start : (image chains : List ℕ) (header : ChainHeader) (all : List SegmentView) (count : ℕ) → AreWalked image chains header all all count 0 0
-starts_start image chains header all count = record {
-  passed = passed_none all;
-  few = omega arith;
-  good = λ k less. absurd (omega arith);
-  reach = reach_none chains header;
-}
 
 module _ (image chains : List ℕ) (header : ChainHeader) (all left : List SegmentView) (count index reach : ℕ) (walk : AreWalked image chains header all left count index reach) where
   -- the next segment

@@ -96,20 +96,7 @@ module _ (image : List ℕ) where
 
 -- What a survey of a table finds
 
--- without a header
-pub survey_headless : (image chains : List ℕ) → chain_header chains ≡ None → AreLeastInTable image chains (record unbroken_chains { header = Some 0 })
-survey_headless image chains none = record {
-  header = ((refl, none), λ offset broken. omega arith);
-  starts = without (λ header. BreaksChainStarts image chains header);
-  imports = without (λ header. BreaksChainImports chains header);
-  total = without (λ header. BreaksChainTotal chains header);
-  library = without (λ header. BreaksChainLibrary (library_count image) chains header);
-}
-  where
-    without : (X : ChainHeader → ℕ → Type 0) (offset : ℕ) → ¬ HasHeader chains (λ header. X header offset)
-    without X offset = subst (λ (found : Option ChainHeader). ¬ IsSomeAnd found (λ header. X header offset)) (sym none) (λ wrong. wrong)
-
--- where there is one
+-- where there is a header
 pub survey_headed : (image chains : List ℕ) (header : ChainHeader) → chain_header chains ≡ Some header → (starts imports total library : Option ℕ)
     → IsLeastPlace (BreaksChainStarts image chains header) starts → IsLeastPlace (BreaksChainImports chains header) imports
     → IsLeastPlace (BreaksChainTotal chains header) total → IsLeastPlace (BreaksChainLibrary (library_count image) chains header) library

@@ -1,10 +1,9 @@
 -- The parts of a command, as they are put together.
 use Rattle.std.proofs.Common.{◌≡◌, ◌↔◌, ◌⊎◌, ℕ, ◌≤◌, List, length, sym, subst, arith, inl, inr}
 use Rattle.macho_spans.specs.declared.span.Span.{Span}
-use Rattle.macho_commands.specs.Described.{IsDescribedPart, AreParts, IsInParts, IsBadPart, IsWithin, HasBadPart, HasStrayByte, HasOther}
+use Rattle.macho_commands.specs.Described.{IsDescribedPart, AreParts, IsInParts, IsBadPart, IsWithin, HasBadPart}
 use Rattle.macho_commands.specs.declared.content.Content.{Content}
 use Rattle.macho_commands.specs.declared.content.Holding.{Holding}
-use Rattle.macho_commands.specs.declared.described.Parts.{Parts}
 
 -- a part without bytes
 pub no_part : (size : ℕ) (bytes : List ℕ) → size ≤ length bytes → IsDescribedPart size bytes (λ _. ⊥) (record { start = size; len = 0 })
@@ -37,10 +36,3 @@ module _ (bytes : List ℕ) (content : Content) (what : Holding) (is : content.h
 
   pub is_bad : IsBadPart content.size bytes what → HasBadPart bytes content
   is_bad bad = subst (IsBadPart content.size bytes) (sym is) bad
-
--- a byte in neither part is a stray one
-pub other_is_stray : (bytes : List ℕ) (content : Content) (parts : Parts) → AreParts bytes content parts → HasOther content.size bytes parts ↔ HasStrayByte bytes content
-other_is_stray bytes content parts are = (
-  λ (offset, low, here, out). (offset, low, here, λ within. out ((are.holds offset low here.0).1 within)),
-  λ (offset, low, here, out). (offset, low, here, λ within. out ((are.holds offset low here.0).0 within)),
-)

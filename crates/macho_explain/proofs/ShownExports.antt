@@ -52,11 +52,6 @@ module _ (trie : List ℕ) (place : ℕ) where
         let (edges, are, same) = mapped_some (ended f) (edges_at head.edge_count trie head.edges) (first, end) is in
         rw (sym begins, are) (ap (λ (p : Option ExportEdge × ℕ). Some (head.terminal, p.1)) same)
 
--- what is shown of the node at a place
-pub node_shown : (P : Span × ℕ → Type 0) (bounds : Span × ℕ) (o : Option Node) → Some bounds ≡ option_map node_bounds o → P bounds → IsSomeAnd o (λ node. P (node_bounds node))
-node_shown P bounds None is has = absurd (none-some bounds (sym is))
-node_shown P bounds (Some node) is has = subst P (same_Some bounds (node_bounds node) is) has
-
 -- a place that has a node is one of the trie
 pub has_place : (Q : List ℕ → List ℕ → Span → Type 0) (image : List ℕ) (place : ℕ) → HasNodeWith Q image place → HasNodeAt image place
 has_place Q image place (opens, (table, bytes, is, offset, at, (near, has))) = (opens, (table, bytes, is, offset, at, near))

@@ -54,6 +54,3 @@ mapped f (x ∷ xs) (suc k) y is = mapped f xs k y is
 -- places that both of two ranges have, where all are moved by so much, and held below 2^64
 pub moved_first : (by start place : ℕ) → start ≤ place → min (by + start) (2 ^ 64 - 1) ≤ min (by + place) (2 ^ 64 - 1)
 moved_first by start place at = omega arith
-
-pub moved_last : (by start len place : ℕ) → start ≤ place → place < start + len → min (by + place) (2 ^ 64 - 1) < min (by + start) (2 ^ 64 - 1) + len
-moved_last by start len place from at = omega arith

@@ -126,14 +126,6 @@ abbrev pub follow_from : ℕ → List ℕ → ℕ → List ℕ → Option Export
 follow_from count trie place name first =
     option_map (picked trie name first) (edges_at count trie place)
 
-pub follow_end : (trie : List ℕ) (place : ℕ) (name : List ℕ) (first : Option ExportEdge) → follow_from 0 trie place name first ≡ Some (first, place)
-follow_end trie place name None = refl
-follow_end trie place name (Some edge) = refl
-
-pub follow_stuck : (count : ℕ) (trie : List ℕ) (place : ℕ) (name : List ℕ) (first : Option ExportEdge) → edge_at trie place ≡ None
-    → follow_from (suc count) trie place name first ≡ None
-follow_stuck count trie place name first is = rw is refl
-
 -- of an edge that was found before, or not, and this one
 abbrev pub or_edge : List ℕ → List ℕ → Option ExportEdge → ExportEdge → Option ExportEdge
 or_edge trie name first edge = option_or first (cond (begins_with trie name edge) (Some edge) None)

@@ -42,10 +42,6 @@ use Rattle.macho_fixups.specs.declared.row.KesvuotFixup.{KesvuotFixup}
 use Rattle.macho_fixups.proofs.ChainSegments.{no_entry, no_starts, with_starts, fresh}
 use Rattle.macho_fixups.proofs.ChainWalks.{pages_done, page_empty, page_begun, row_last, row_next}
 
--- the address of a row is its location's
-located_at : (image : List ℕ) (segment index offset : ℕ) (value : KesvuotFixup) → (located image segment index offset value).address ≡ pointer_address image segment offset
-located_at image segment index offset value = refl
-
 module _ (image : List ℕ) (unbroken : NothingBreaks (layout.BreaksImage image None)) (short : length image < 2 ^ 64) (table home : ℕ) (chains : List ℕ) (header : ChainHeader)
     (good : AreGoodChains image table chains header) (same : (memory : ℕ → ℕ) → IsKept image memory → (k : ℕ) → k < length chains → memory (home + k) ≡ slice_index chains k)
     (base : ℕ) (is_base : base_of image (commands_of image) ≡ Some base) where

@@ -1,6 +1,6 @@
 -- What a walk over the code directories of a signature knows of them.
 use Rattle.std.proofs.Common.{◌≡◌, ℕ, ◌+◌, ◌<◌, List, length, get_or, Bool, true, false, Option, None, Some, MatchOption, refl, sym, ap, ◌∙◌, subst, arith, inl, inr}
-use Rattle.std.specs.Prelude.{◌&&◌, ◌==◌, nat_le, if◌then◌else◌, IfSome, IsSome}
+use Rattle.std.specs.Prelude.{◌&&◌, ◌==◌, nat_le, if◌then◌else◌, IsSome}
 use Rattle.std.specs.Option.{is_some}
 use Rattle.std.proofs.lemmas.Bool.{cases_lt, cases_Bool, and_from, and_parts, leb-true, cond-true, cond-false, false≢true}
 use Rattle.std.proofs.lemmas.Option.{none-some}
@@ -56,10 +56,6 @@ abbrev pub IsFirstFound : List ℕ → ℕ → Option Bytes → Type 0
 IsFirstFound signature count found =
     MatchOption found ((j : ℕ) → j < count → ¬ HasDirectory signature j)
     (λ blob. HasFields (bytes_of blob) × ((first : ℕ) × (first < count) × IsFirstDirectory signature first × (bytes_of blob ≡ bytes_at signature first)))
-
-pub found_fields : (signature : List ℕ) (count : ℕ) (found : Option Bytes) → IsFirstFound signature count found → IfSome found (λ blob. HasFields (bytes_of blob))
-found_fields signature count None none = tt
-found_fields signature count (Some blob) is = is.0
 
 one_first : (signature : List ℕ) (f g : ℕ) → IsFirstDirectory signature f → IsFirstDirectory signature g → f ≡ g
 one_first signature f g (has, none) (also, nothing) = elim (cases_lt f g) [

@@ -1,5 +1,5 @@
 -- Which slice begins in the pages of another one.
-use Rattle.std.proofs.Common.{◌≡◌, ◌↔◌, ℕ, ◌+◌, ◌-◌, ◌*◌, ◌/◌, ◌^◌, ◌≤◌, ◌<◌, ◌%◌, ◌≢◌, ◌==◌, min, List, [], ◌∷◌, ◌++◌, take, drop, length, length-drop, None, Some, IsTrue, Bool, true, refl, sym, ap, ◌∙◌, subst, arith, inl, inr}
+use Rattle.std.proofs.Common.{◌≡◌, ◌↔◌, ℕ, ◌+◌, ◌-◌, ◌*◌, ◌/◌, ◌≤◌, ◌<◌, ◌%◌, ◌≢◌, ◌==◌, min, List, [], ◌∷◌, ◌++◌, take, drop, length, length-drop, None, Some, IsTrue, Bool, true, refl, sym, ap, ◌∙◌, subst, arith, inl, inr}
 use Rattle.std.specs.Prelude.{IsPermutation}
 use Rattle.std.specs.List.Sorted.{IsNonDecreasingBy}
 use Rattle.std.proofs.lemmas.Bool.{cases_Bool, cases_lt}
@@ -21,9 +21,6 @@ use Rattle.macho_readers.specs.Pages.{page_size, page_end}
 -- the last place of a page
 pub page_last : (cputype last : ℕ) → last / page_size cputype * page_size cputype + (page_size cputype - 1) + 1 ≡ page_end (page_size cputype) last
 page_last cputype last = elim (cases_Bool (cputype == machine.CPU_TYPE_X86_64)) [ inl t ↦ rw t (omega arith) | inr f ↦ rw f (omega arith) ]
-
-pub page_fits : (cputype last : ℕ) → last < 2 ^ 64 → last / page_size cputype * page_size cputype + (page_size cputype - 1) < 2 ^ 64
-page_fits cputype last less = elim (cases_Bool (cputype == machine.CPU_TYPE_X86_64)) [ inl t ↦ rw t (omega (arith, less)) | inr f ↦ rw f (omega (arith, less)) ]
 
 -- Sorted spans
 

@@ -24,9 +24,6 @@ is_zero byte = byte == 0
 
 -- The string at the front of bytes
 
-no_string : first_string [] ≡ None
-no_string = refl
-
 zero_string : (x : ℕ) (bytes : List ℕ) → is_zero x ≡ true → first_string (x ∷ bytes) ≡ Some []
 zero_string x bytes is = rw is refl
 

@@ -1,9 +1,9 @@
 -- The symbols that have an address, gone over one after another.
-use Rattle.std.proofs.Common.{◌≡◌, ◌∙◌, ℕ, suc, ◌+◌, ◌≤◌, ◌<◌, List, [], ◌∷◌, ◌++◌, length, take, drop, set, filter, cond, Bool, true, false, Some, slice_get, inl, inr, refl, sym, ap, ap₂, subst, arith, append_assoc, length-append, length-take}
+use Rattle.std.proofs.Common.{◌≡◌, ◌∙◌, ℕ, suc, ◌+◌, ◌≤◌, ◌<◌, List, [], ◌∷◌, ◌++◌, length, take, drop, filter, cond, Bool, true, false, Some, slice_get, inl, inr, refl, sym, ap, ap₂, subst, arith, append_assoc, length-append, length-take}
 use Rattle.std.specs.List.{range_with_len}
 use Rattle.std.proofs.lemmas.Bool.{cases_Bool}
 use Rattle.std.proofs.Math.Seq.{take-append_seam}
-use Rattle.std.proofs.lemmas.List.{append-nil, take_all, take_more_set}
+use Rattle.std.proofs.lemmas.List.{append-nil, take_all}
 use Rattle.std.proofs.lemmas.List.Sorted.{length_permutation}
 use Rattle.std.proofs.lemmas.Slice.{drop-append-drop}
 use Rattle.macho_image.specs.declared.symbol.Symbol.{Symbol}
@@ -54,24 +54,6 @@ numbers_counted number (s ∷ rest) =
 
 pub addresses_counted : (symbols : List Symbol) → length (filter has symbols) ≡ length (addresses symbols)
 addresses_counted symbols = sym (numbers_counted 0 symbols) ∙ ap length (all_numbers symbols)
-
--- the step of a walk that counts
-pub counts_one : (s : Symbol) (rest : List Symbol) → has s ≡ true → length (filter has (s ∷ rest)) ≡ length (filter has rest) + 1
-counts_one s rest is = rw is (let more : suc (length (filter has rest)) ≡ length (filter has rest) + 1 = omega arith in more)
-
-pub counts_none : (s : Symbol) (rest : List Symbol) → has s ≡ false → length (filter has (s ∷ rest)) ≡ length (filter has rest)
-counts_none s rest is = rw is refl
-
--- the step of a walk that writes
-pub numbers_one : (number : ℕ) (s : Symbol) (rest : List Symbol) → has s ≡ true → numbers_from number (s ∷ rest) ≡ number ∷ numbers_from (number + 1) rest
-numbers_one number s rest is = rw is refl
-
-pub numbers_none : (number : ℕ) (s : Symbol) (rest : List Symbol) → has s ≡ false → numbers_from number (s ∷ rest) ≡ numbers_from (number + 1) rest
-numbers_none number s rest is = rw is refl
-
-pub written_one : (index rest all : List ℕ) (written number : ℕ) → written < length index → take written index ++ number ∷ rest ≡ all → take (written + 1) (set index written number) ++ rest ≡ all
-written_one index rest all written number within is =
-    ap (λ front. front ++ rest) (take_more_set index written number within) ∙ (append_assoc (take written index) (number ∷ []) rest ∙ is)
 
 -- after the last symbol
 pub all_written : (index all : List ℕ) (written : ℕ) → take written index ++ [] ≡ all → length index ≡ length all → index ≡ all

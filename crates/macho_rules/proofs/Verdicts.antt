@@ -1,6 +1,6 @@
 -- From the answers on slices and images to the verdict on a file.
 use Rattle.std.proofs.Common.{◌≡◌, ◌↔◌, ℕ, suc, ◌+◌, ◌≤◌, ◌<◌, List, length, map, slice_get, slice_index_or, false, Option, Some, None}
-use Rattle.std.proofs.Common.{Result, Ok, Err, IfErr, OnOk, IfSome, IsErrAnd, IsTrue, Bor, nat_lt, inl, inr, sym, ap, ◌∙◌, subst, arith}
+use Rattle.std.proofs.Common.{Result, Ok, Err, IfErr, IfSome, IsErrAnd, IsTrue, Bor, nat_lt, inl, inr, sym, ap, ◌∙◌, subst, arith}
 use Rattle.std.specs.Option.{option_map}
 use Rattle.std.proofs.lemmas.List.{length-map}
 use Rattle.std.proofs.lemmas.Option.{slice_get-map, slice_get-get_or, slice_get_past}
@@ -62,10 +62,6 @@ module _ (image : List ℕ) (arch : Option (ℕ × ℕ)) (opening : KeptBelow (B
   pub opened_refused : (refused : Refusal) → IsImageRefusal image None refused → IsImageRefusal image arch refused
   opened_refused (refusal.Broken b) (here, least) = (image_alone image arch b.rule b.place here, λ r place broken. least r place (alone r place broken))
   opened_refused refusal.Memory (below, mapped, unordered) = (λ r place early broken. below r place early (alone r place broken), mapped, unordered)
-
-pub kept_for : {T E P Q : Type 0} → (P → Q) → (answer : Result T E) → OnOk answer P → OnOk answer Q
-kept_for to (Ok x) p = to p
-kept_for to (Err e) p = tt
 
 pub answered : {T E : Type 0} (P : E → Type 0) (answer : Result T E) (given e : E) → answer ≡ Err given → given ≡ e → P e → IfErr answer P
 answered P answer given e is same p = subst (λ a. IfErr a P) (sym is) (subst P (sym same) p)

@@ -4,7 +4,7 @@ use Rattle.std.specs.Prelude.{IsSomeAnd}
 use Rattle.macho_fields.specs.Field.{part}
 use Rattle.macho_fields.specs.FirstPlace.{IsLeastPlace}
 use Rattle.macho_fields.specs.Image.{commands_of}
-use Rattle.macho_fields.specs.Layers.{KeptBelow, NothingBreaks, IsLeast}
+use Rattle.macho_fields.specs.Layers.{NothingBreaks, IsLeast}
 use Rattle.macho_fields.specs.LoadCommands.{linkedit_data_table}
 use Rattle.macho_fields.specs.RuleList.{rank}
 use Rattle.macho_fields.specs.Rules.{BreaksImage as Breaks}
@@ -34,7 +34,7 @@ use Rattle.macho_tables.proofs.HeldSegments.{segment_inside}
 use Rattle.macho_seals.proofs.Blobs.{blob_inside, blob_filled}
 use Rattle.macho_sealed.proofs.Good.{whole_signature}
 use Rattle.macho_seals.proofs.PageSpans.{page_inside}
-use Rattle.macho_sealed.proofs.Ranks.{none_before, first_kept}
+use Rattle.macho_sealed.proofs.Ranks.{none_before}
 
 -- an image has one signature
 one_table : (command : Option ℕ) (table_of : ℕ → Span) (one other : Span) → IsSomeAnd command (λ c. (one ≡ table_of c) × (0 < one.len)) → IsSomeAnd command (λ c. (other ≡ table_of c) × (0 < other.len)) → one ≡ other
@@ -117,8 +117,3 @@ missing_first image none b named at = (
     first : (r : Rule) (place : ℕ) → BreaksImage image r place → ¬ ((rank r < rank rule.SignatureMissing) ⊎ ((rank r ≡ rank rule.SignatureMissing) × (place < b.place)))
     first r place broken (inl early) = none_before image r place early broken
     first r place broken (inr (same, low)) = omega (arith, low, at)
-
--- one with a signature does not
-pub not_missing : (image : List ℕ) (table : Span) → IsDataTable image loader.LC_CODE_SIGNATURE table → IsWholeSignature table.start (part table.start table.len image)
-    → KeptBelow (BreaksImage image) (rank rule.SignatureExecutable)
-not_missing image table is whole r place early broken = first_kept image (λ p missing. missing.1 (table, is, whole.main)) r place early broken

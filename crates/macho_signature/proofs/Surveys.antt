@@ -76,12 +76,6 @@ not_judged start signature bad survey directory whole least = record {
   whole = subst (IsLeastPlace (PartialDirectory start signature)) (sym whole) (λ place (good, broken). bad good.blobs);
 }
 
-pub no_superblob : (start : ℕ) (signature : List ℕ) → HasNoSuperblob signature → (survey : SignatureSurvey) → survey.blob ≡ Some 0 → survey.directory ≡ None → survey.whole ≡ None
-    → AreLeastInSignature start signature survey
-no_superblob start signature none survey blob directory whole =
-    not_judged start signature (λ good. good.superblob none) survey directory whole
-    (subst (IsLeastPlace (BadBlob signature)) (sym blob) (inl (refl, none), λ place broken. omega arith))
-
 module _ (start : ℕ) (signature : List ℕ) (whole : ¬ HasNoSuperblob signature) where
   -- the first one is at an entry
   pub first_bad_blob : (k : ℕ) → k < blob_count signature → IsBadBlob signature k → ((j : ℕ) → j < k → ¬ IsBadBlob signature j)

@@ -12,7 +12,7 @@ use Rattle.macho_spans.specs.Overlap.{span_at, IsAscending, SharesEarlier}
 use Rattle.macho_fields.proofs.Decided.{both_or_not, le_or_not}
 use Rattle.macho_spans.specs.Span.{Covers, end_of, Holds}
 use Rattle.macho_spans.specs.declared.span.Span.{Span}
-use Rattle.macho_strict.specs.Gaps.{IsWanted, IsStray, ComeByStart, AreInside, Walked, ArePassed, IsLeastNext}
+use Rattle.macho_strict.specs.Gaps.{IsWanted, IsStray, ComeByStart, Walked, ArePassed, IsLeastNext}
 use Rattle.macho_strict.specs.declared.gaps.Gaps.{Gaps}
 use Rattle.macho_strict.specs.declared.gaps.Wanted.{Wanted}
 use Rattle.macho_strict.specs.declared.gaps.Wanted.TheVariants as wanted
@@ -297,23 +297,6 @@ module _ (wanted : Wanted) (bytes : List ℕ) (spans : List Span) (x : Span) (ol
       record { of = are.of; wants = are.wants; unsorted = λ _. unsorted; ascending = ascending; walked = λ e. absurd (true≢false (sym e ∙ unset)) }
 
 -- All were passed
-
--- whether they end inside the bytes, as a test of the greatest end shows it
-pub inside_shown : (wanted : Wanted) (bytes : List ℕ) (spans : List Span) (gaps : Gaps) → ArePassed wanted bytes spans gaps → gaps.by_start ≡ true → (inside : Bool)
-    → IsTrue inside ↔ (gaps.end ≤ length (bytes_of gaps.bytes)) → IsTrue inside ↔ AreInside bytes spans
-inside_shown wanted bytes spans gaps are set inside test = (shown, found)
-  where
-    walked : Walked wanted bytes spans gaps.start gaps.end gaps.stray
-    walked = are.walked set
-
-    shown : IsTrue inside → AreInside bytes spans
-    shown is i filled = let by = test.0 is in let low = walked.ends i filled in omega (arith, by, low, ap length are.of)
-
-    found : AreInside bytes spans → IsTrue inside
-    found all = test.1 (elim walked.reached [
-      | inl none ↦ omega (arith, none)
-      | inr (j, filled, same) ↦ let by = all j filled in omega (arith, by, same, ap length are.of)
-    ])
 
 -- a byte that is looked for is one of them
 wanted_inside : (wanted : Wanted) (bytes : List ℕ) (p : ℕ) → IsWanted wanted bytes p → p < length bytes

@@ -17,10 +17,6 @@ pub bad_entry_near : (image : List ℕ) → IsTableRule image BadEntry
 bad_entry_near image table place some (inl (at, rest)) = omega (arith, at, some)
 bad_entry_near image table place some (inr (k, less, at, bad)) = let inside = entry_inside table k less in omega (arith, at, inside)
 
--- the size is not a multiple of an entry's
-pub rest_first : (image table : List ℕ) → HasRest table → IsLeastPlace (BadEntry image table) (Some 0)
-rest_first image table rest = (inl (refl, rest), λ other broken. omega arith)
-
 module _ (image table : List ℕ) (whole : ¬ HasRest table) where
   -- the entry is the first bad one
   pub first_bad_entry : (k : ℕ) → k < entry_count table → IsBadEntry image (entry_at table (entry_place k))

@@ -25,7 +25,7 @@ use Rattle.macho_spans.specs.declared.span.Span.{Span}
 use Rattle.macho_strict.specs.Disjoint.{IsHolding}
 use Rattle.macho_strict.specs.Passed.{occupied}
 use Rattle.macho_strict.proofs.Disjoints.{held_not_free}
-use Rattle.macho_strict.proofs.Occupied.{has_place, occupied_more, occupied_same}
+use Rattle.macho_strict.proofs.Occupied.{has_place, occupied_same}
 use Rattle.macho_strict.proofs.Passed.{no_span}
 use Rattle.macho_tables.specs.SegmentMemory.{memory_of, HasAddress, HoldMemory}
 use Rattle.macho_tables.specs.StartNumbers.{HasByteAt, IsFileAddress}
@@ -106,14 +106,6 @@ file_address image address = (
 
 abbrev pub view_memory : Extent → SegmentView → Span
 view_memory extent s = memory_of extent s.image s.place
-
--- a segment's addresses are added, if it has some
-pub memory_more : (extent : Extent) (yielded : List SegmentView) (s : SegmentView) (old new : List Span) (span : Span) → span ≡ view_memory extent s → old ≡ occupied (map (view_memory extent) yielded)
-    → 0 < span.len → new ≡ old ++ span ∷ [] → new ≡ occupied (map (view_memory extent) (yielded ++ s ∷ []))
-memory_more extent yielded s old new span is was filled pushed =
-    pushed ∙ (ap (λ (xs : List Span). xs ++ span ∷ []) was
-    ∙ (sym (occupied_more (map (view_memory extent) yielded) span filled)
-    ∙ ap occupied (ap (λ (x : Span). map (view_memory extent) yielded ++ x ∷ []) is ∙ sym (map-append (view_memory extent) yielded (s ∷ [])))))
 
 pub memory_same : (extent : Extent) (yielded : List SegmentView) (s : SegmentView) (old : List Span) (span : Span) → span ≡ view_memory extent s → old ≡ occupied (map (view_memory extent) yielded)
     → span.len ≡ 0 → old ≡ occupied (map (view_memory extent) (yielded ++ s ∷ []))

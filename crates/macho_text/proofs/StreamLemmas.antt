@@ -73,10 +73,6 @@ pub wrote_next_text : (a b c : Option (List ℕ)) (text : List ℕ) (rest : List
 unfolding joined
 wrote_next_text a b c text rest first second = wrote_then a b c text (joined rest) first second
 
-pub wrote_last_text : (a b : Option (List ℕ)) (text : List ℕ) → Wrote a b text → Wrote a b (joined (text ∷ []))
-unfolding joined
-wrote_last_text a b text h = rw (append-nil text) h
-
 -- a text, and then a prefix of the texts after it
 pub wrote_prefix_next_text : (a b c : Option (List ℕ)) (text : List ℕ) (rest : List (List ℕ)) → Wrote a b text → WrotePrefix b c (joined rest) → WrotePrefix a c (joined (text ∷ rest))
 unfolding joined
