@@ -1,11 +1,15 @@
 -- The slices of a universal file are listed entry by entry.
-use Rattle.std.proofs.Common.{◌≡◌, ℕ, ◌+◌, List, [], ◌∷◌, ◌++◌, map, Option, All, IsTrue, ◌↔◌, refl, sym, ap, ap₂, ◌∙◌, subst, arith}
+use Rattle.std.proofs.Common.{◌≡◌, ℕ, ◌+◌, List, [], ◌∷◌, ◌++◌, map, Option, None, Some, All, IfSome, IsTrue, slice_get, ◌↔◌, refl, sym, ap, ap₂, ◌∙◌, subst, arith}
 use Rattle.std.proofs.lemmas.List.{map-append}
 use Rattle.std.proofs.lemmas.List.Elements.{All-nil, All-cons, All-append}
 use Rattle.std.proofs.lemmas.List.FromFn.{map-range_with_len_more}
-use Rattle.macho_fields.specs.Universal.{FileSlice, IsUniversal, entry_count, entry_slice, slice_bytes, IsImage}
+use Rattle.std.specs.Option.{option_map}
+use Rattle.macho_fields.specs.Layers.{NothingBreaks}
+use Rattle.macho_fields.specs.Rules.{BreaksFile}
+use Rattle.macho_fields.specs.Universal.{FileSlice, IsUniversal, entry_count, entry_slice, slice_bytes, slices_of, IsImage}
+use Rattle.macho_fields.proofs.Sound.{slice_inside}
 use Rattle.macho_fields.proofs.Slices.{first_slices, universal_slices}
-use Rattle.macho_fat.specs.Slices.{slice_of, MarksRead, AreSlices}
+use Rattle.macho_fat.specs.Slices.{slice_of, MarksRead, MarksReadInside, AreSlices}
 use Rattle.macho_fat.specs.declared.slice.Slice.{Slice}
 
 -- these are the slices of the first k entries
@@ -41,3 +45,8 @@ listed_more file k slices next slice first start size arch read is = subst (AreF
 
 pub all_listed : (file : List ℕ) (k : ℕ) (slices : List Slice) → IsUniversal file → k ≡ entry_count file → AreFirst file k slices → AreSlices file slices
 all_listed file k slices universal all first = record { all = first.all ∙ (ap (first_slices file) all ∙ sym (universal_slices file universal)); read = first.read }
+
+-- each slice lies inside a file that breaks none of its rules
+pub marks_read : (file : List ℕ) → NothingBreaks (BreaksFile file) → (k : ℕ) (got : Option Slice) → option_map slice_of got ≡ slice_get (slices_of file) k → IfSome got (MarksReadInside file) → IfSome got (MarksRead file)
+marks_read file keeps k None is inside = tt
+marks_read file keeps k (Some slice) is inside = (λ read. (inside.0 read).1, λ image. inside.1 (slice_inside file keeps k (slice_of slice) (sym is), image))

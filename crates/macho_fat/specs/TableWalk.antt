@@ -4,7 +4,7 @@ use Rattle.std.specs.Prelude.{◌≡◌, ◌⊎◌, ◌↔◌, ℕ, ◌+◌, ◌
 use Rattle.std.specs.List.{range_with_len}
 use Rattle.macho_fields.specs.First.{rank}
 use Rattle.macho_fields.specs.FirstPlace.{IsFirstOf, IsLeastPlace}
-use Rattle.macho_fields.specs.Layers.{IsLeast, KeptBelow}
+use Rattle.macho_fields.specs.Layers.{IsLeast, KeptBelow, NothingBreaks}
 use Rattle.macho_spans.specs.Overlap.{SharesEarlier, IsLeastSharing}
 use Rattle.macho_fields.specs.Rules.{BreaksFile}
 use Rattle.macho_spans.specs.SpanOrder.{IsOrderOf}
@@ -29,6 +29,11 @@ IsFormat file format.Universal = IsUniversal file
 pub record HasWholeTable (file : List ℕ) : Type 0 where
   pub universal : IsUniversal file
   pub inside : table_end file ≤ length file
+
+-- the file breaks none of its rules, and the table is its own, or it is an image and has none
+pub record HasSlices (file : List ℕ) (table : Option (List ℕ)) : Type 0 where
+  pub unbroken : NothingBreaks (BreaksFile file)
+  pub read : MatchOption table (IsImage file × (is_universal file ≡ false)) (λ known. (known ≡ file) × IsUniversal file)
 
 -- what was read is entry k of the file
 pub record IsEntry (file : List ℕ) (k : ℕ) (entry : Entry) : Type 0 where

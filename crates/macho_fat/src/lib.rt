@@ -11,4 +11,4 @@ mod table;
 
 pub use fault::FatFault;
 pub use rules::is_unread_image;
-pub use slice::{Slice, SliceList, slice_at, slice_list, slices};
+pub use slice::{FileSlices, Slice, SliceList, slice_at, slice_list, slices};

@@ -18,6 +18,7 @@ use crate::rules::{Format, fat_truncated, is_image, magic};
 use crate::table::Table;
 use macho_fields::{Break, Bytes, Span};
 use std::alloc::{AllocError, Global};
+use std::marker::Model;
 use std::slice::from_ref;
 
 /// The part of a file that holds one image.
@@ -50,6 +51,83 @@ impl SliceList {
         match self {
             SliceList::One(slice) => from_ref(slice),
             SliceList::Many(slices) => slices,
+        }
+    }
+}
+
+/// The slices of a file that breaks none of the rules from `magic` to `fat-empty`. They are read from
+/// the table, and take no memory until they are listed.
+#[derive(Drop)]
+pub struct FileSlices<'a> {
+    file: Bytes<'a>,
+    // `None` in a file that is one image.
+    table: Option<Table<'a>>,
+}
+
+impl<'a> Model for FileSlices<'a> {
+    ghost use Rattle.std.specs.Prelude.{List, ℕ};
+    ghost use Rattle.macho_fields.specs.Bytes.{bytes_of};
+    ghost use Rattle.macho_fat.specs.TableWalk.{HasSlices};
+
+    ghost Value = { List ℕ };
+
+    ghost view = { λ slices. bytes_of slices.file };
+
+    ghost invariant = { λ slices. HasSlices (bytes_of slices.file) slices.table };
+}
+
+impl<'a> FileSlices<'a> {
+    ghost use Rattle.std.specs.Prelude.{◌≡◌, length, slice_get, IfErr, IfOk, IfSome, OnErr};
+    ghost use Rattle.std.specs.Option.{option_map};
+    ghost use Rattle.macho_fields.specs.Bytes.{bytes_of};
+    ghost use Rattle.macho_fields.specs.Layers.{NothingBreaks};
+    ghost use Rattle.macho_fields.specs.Rules.{BreaksFile};
+    ghost use Rattle.macho_fields.specs.Universal.{slices_of, IsUniversal};
+    ghost use Rattle.macho_fat.specs.Slices.{slice_of, slices_in, capacity_of, listed_count};
+    ghost use Rattle.macho_fat.specs.Slices.{AreSlices, IsFatFault, MarksRead};
+
+    /// Decides the rules of a file, from `magic` to `fat-empty`, and returns its slices, or the first
+    /// broken rule. `fat-overlap` and `fat-duplicate` take memory if the slices, or the numbers of the
+    /// architectures, neither ascend nor descend: 24 bytes per entry, to sort them, which they free.
+    pub fn check(alloc: Global, file: Bytes<'a>) -> Result<FileSlices<'a>, FatFault>
+        ensures file { IfOk result (λ slices. slices ≡ bytes_of file.entry) }
+        ensures refused { IfErr result (IsFatFault (bytes_of file.entry)) }
+    {
+        let table = check_file(alloc, file)?;
+        Ok(FileSlices { file, table })
+    }
+
+    /// How many slices there are. The clause `unbroken` is what [`FileSlices::check`] decided.
+    pub fn count(&self) -> u64
+        ensures count { result ≡ length (slices_of self.now) }
+        ensures unbroken { NothingBreaks (BreaksFile self.now) }
+    {
+        match &self.table {
+            None => 1,
+            Some(table) => u64::from(table.count()),
+        }
+    }
+
+    /// The slice with this index, counted from 0 in the order of the table, or `None` past the last one.
+    pub fn get(&self, index: u64) -> Option<Slice>
+        ensures slice { option_map slice_of result ≡ slice_get (slices_of self.now) index }
+        ensures read { IfSome result (MarksRead self.now) }
+    {
+        match &self.table {
+            None => whole_at(self.file, index),
+            Some(table) => listed_at(self.file, table, index),
+        }
+    }
+
+    /// The slices as a list, with no spare capacity. It takes memory only for a universal file.
+    pub fn list(&self, alloc: Global) -> Result<SliceList, AllocError>
+        ensures slices { IfOk result (λ list. AreSlices self.now (slices_in list)) }
+        ensures capacity { IfOk result (λ list. capacity_of list ≡ listed_count self.now) }
+        ensures memory { OnErr result (IsUniversal self.now) }
+    {
+        match &self.table {
+            None => Ok(SliceList::One(whole(self.file))),
+            Some(table) => Ok(SliceList::Many(listed(alloc, table)?)),
         }
     }
 }
@@ -91,10 +169,8 @@ pub fn slice_list(alloc: Global, file: Bytes) -> Result<SliceList, FatFault>
     ensures unbroken { OnOk result (NothingBreaks (BreaksFile (bytes_of file.entry))) }
     ensures refused { IfErr result (IsFatFault (bytes_of file.entry)) }
 {
-    match check_file(alloc, file)? {
-        None => Ok(SliceList::One(whole(file))),
-        Some(table) => Ok(SliceList::Many(listed(alloc, &table)?)),
-    }
+    let slices = FileSlices::check(alloc, file)?;
+    Ok(slices.list(alloc)?)
 }
 
 /// The slice that [`slices`] lists at `index`, or `None` if it lists none there. It takes no
