@@ -1,6 +1,6 @@
 -- From the answers on slices and images to the verdict on a file.
-use Rattle.std.proofs.Common.{◌≡◌, ◌↔◌, ℕ, suc, ◌+◌, ◌≤◌, ◌<◌, List, length, map, slice_get, slice_index_or, false, Option, Some, None}
-use Rattle.std.proofs.Common.{Result, Ok, Err, IfErr, IfSome, IsErrAnd, IsTrue, Bor, nat_lt, inl, inr, sym, ap, ◌∙◌, subst, arith}
+use Rattle.std.proofs.Common.{◌≡◌, ◌↔◌, ℕ, zero, suc, ◌+◌, ◌≤◌, ◌<◌, List, [], ◌∷◌, length, map, slice_get, slice_index_or, false, Option, Some, None}
+use Rattle.std.proofs.Common.{Result, Ok, Err, IfErr, IfSome, IsSome, IsErrAnd, IsTrue, Bor, nat_lt, inl, inr, refl, sym, ap, ◌∙◌, subst, arith}
 use Rattle.std.specs.Option.{option_map}
 use Rattle.std.proofs.lemmas.List.{length-map}
 use Rattle.std.proofs.lemmas.Option.{slice_get-map, slice_get-get_or, slice_get_past}
@@ -66,14 +66,24 @@ module _ (image : List ℕ) (arch : Option (ℕ × ℕ)) (opening : KeptBelow (B
 pub answered : {T E : Type 0} (P : E → Type 0) (answer : Result T E) (given e : E) → answer ≡ Err given → given ≡ e → P e → IfErr answer P
 answered P answer given e is same p = subst (λ a. IfErr a P) (sym is) (subst P (sym same) p)
 
--- what a list is taken to have past its end
-abbrev pub no_slice : Slice
-no_slice = record { span = record { start = 0; len = 0 }; arch = None; read = false }
-
 -- the slice at an index of the list is the file's
 pub slice_at : (file : List ℕ) (slices : List Slice) → AreSlices file slices → (k : ℕ) (d : Slice) → k < length slices → slice_get (slices_of file) k ≡ Some (slice_of (slice_index_or slices k d))
 slice_at file slices are k d less =
     ap (λ ss. slice_get ss k) (sym are.all) ∙ (slice_get-map slice_of slices k ∙ ap (option_map slice_of) (slice_get-get_or slices k d less))
+
+pub own_rules : (file : List ℕ) → IsUnbroken file → NothingBreaks (BreaksFile file)
+own_rules file unbroken r place broken = unbroken (record { scope = 0; rule = r; place = place }) broken
+
+-- there is a slice with an index below their number
+pub slice_there : {A B : Type 0} (f : A → B) (o : Option A) (xs : List B) (index : ℕ) → option_map f o ≡ slice_get xs index → index < length xs → IsSome o
+slice_there f (Some x) xs index is within = refl
+slice_there f None [] index is within = absurd (omega arith)
+slice_there f None (x ∷ xs) zero is within = absurd (cc)
+slice_there f None (x ∷ xs) (suc index) is within = slice_there f None xs index is (omega arith)
+
+-- it is the file's, whose bytes the slices are of
+pub slice_got : (given file : List ℕ) → given ≡ file → (k : ℕ) (slice : Slice) → Some (slice_of slice) ≡ slice_get (slices_of given) k → slice_get (slices_of file) k ≡ Some (slice_of slice)
+slice_got given file same k slice is = sym (subst (λ (bytes : List ℕ). Some (slice_of slice) ≡ slice_get (slices_of bytes) k) same is)
 
 -- a refusal of a slice is one of the file, where nothing is broken before the slice
 pub slice_refused : (file : List ℕ) (k : ℕ) (slice : FileSlice) → slice_get (slices_of file) k ≡ Some slice → KeptSlices file k → IsImage (slice_bytes file slice) → (refused : Refusal)

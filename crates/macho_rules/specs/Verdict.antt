@@ -39,8 +39,8 @@ ImageTakesMemory image arch =
     × IsUnordered (mapped_memory image)
 
 -- The verdict on a file takes memory: the file is universal, and its slices take memory; or it is one
--- image, and the verdict on that does. The images of a universal file are judged when its slices are
--- listed, and so take memory already.
+-- image, and the verdict on that does. The images of a universal file are judged when none of its own
+-- rules is broken, and so its slices take memory already.
 abbrev pub FileTakesMemory : List ℕ → Type 0
 FileTakesMemory file = SlicesTakeMemory file ⊎ (IsImage file × ImageTakesMemory file None)
 

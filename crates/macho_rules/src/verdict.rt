@@ -7,16 +7,16 @@ ghost use Rattle.macho_fields.specs.Field.{part};
 ghost use Rattle.macho_fields.specs.First.{IsUnbroken};
 ghost use Rattle.macho_fields.specs.Layers.{NothingBreaks};
 ghost use Rattle.macho_fields.specs.Loader.{IsSound, IsSoundImage};
-ghost use Rattle.macho_fields.specs.Rules.{BreaksFile, BreaksImage};
+ghost use Rattle.macho_fields.specs.Rules.{BreaksImage};
 ghost use Rattle.macho_fields.specs.Universal.{slice_bytes, IsImage, slices_of, HasImage};
 ghost use Rattle.macho_fields.specs.Image.{commands_of};
-ghost use Rattle.macho_fat.specs.Slices.{slice_of, AreSlices};
+ghost use Rattle.macho_fat.specs.Slices.{slice_of};
 ghost use Rattle.macho_image.specs.Walk.{HasLandmarks};
 ghost use Rattle.macho_rules.specs.Verdict.{IsRefusal, IsImageRefusal, IsSliceRefusal, WasFound};
 
 use crate::check::check_image;
 use crate::refusal::{Refusal, in_file};
-use macho_fat::{Slice, SliceList, slice_list};
+use macho_fat::{FileSlices, Slice, SliceList};
 use macho_fields::{Bytes, Span};
 use macho_image::{Image, Landmarks};
 use std::alloc::Global;
@@ -56,7 +56,7 @@ impl<'a> Model for Verified<'a> {
 /// its place in the file.
 ///
 /// The rules of the file itself come first; then its 64-bit slices, in the order of the table, each
-/// with all of its rules before the next. It takes memory as [`slice_list`] does, and for one image at a
+/// with all of its rules before the next. It takes memory as [`FileSlices`] does, and for one image at a
 /// time as [`check_image`] does: none for a file that is not universal, and whose mapped segments
 /// ascend or descend.
 pub fn verify<'a>(alloc: Global, file: &'a [u8]) -> Result<Verified<'a>, Refusal>
@@ -70,8 +70,9 @@ pub fn verify<'a>(alloc: Global, file: &'a [u8]) -> Result<Verified<'a>, Refusal
     ensures file { IfOk result (λ verified. verified ≡ file.now) }
 {
     let file = Bytes::new(file);
-    let slices = slice_list(alloc, file)?;
-    let found = check_slices(alloc, file, slices.as_slice())?;
+    let unlisted = FileSlices::check(alloc, file)?;
+    let found = check_slices(alloc, file, &unlisted)?;
+    let slices = unlisted.list(alloc)?;
     Ok(Verified {
         file,
         slices,
@@ -81,19 +82,19 @@ pub fn verify<'a>(alloc: Global, file: &'a [u8]) -> Result<Verified<'a>, Refusal
 
 // Decides the rules of each 64-bit slice, one slice after the other. It returns what was found of the
 // image in the last slice, if there is one.
-fn check_slices(alloc: Global, file: Bytes, slices: &[Slice]) -> Result<Option<Found>, Refusal>
-    requires slices { AreSlices (bytes_of file) slices.now }
-    requires file_rules { NothingBreaks (BreaksFile (bytes_of file)) }
+fn check_slices(alloc: Global, file: Bytes, slices: &FileSlices) -> Result<Option<Found>, Refusal>
+    requires { slices.now ≡ bytes_of file }
     ensures unbroken { OnOk result (IsUnbroken (bytes_of file.entry)) }
     ensures found { IfOk result (λ found. IfSome found (WasFound (bytes_of file.entry))) }
     ensures refused { IfErr result (IsRefusal (bytes_of file.entry)) }
 {
     let mut found = None;
-    for index in 0..slices.len() {
-        let slice = &slices[index];
+    for index in 0..slices.count() {
+        // The index is below the number of slices.
+        let slice = slices.get(index).unwrap();
         if slice.read {
-            let keep = index + 1 == slices.len();
-            check_slice(alloc, file, slice, keep, &mut found)?;
+            let keep = index + 1 == slices.count();
+            check_slice(alloc, file, &slice, keep, &mut found)?;
         }
     }
     Ok(found)
