@@ -105,22 +105,22 @@ starts image address past s is some =
     here : (p : ℕ) → drop past (segment_bytes image p) ≢ [] → fileoff image p + past < length image
     here p rest = at (fileoff image p) (filesize image p) rest
 
+none_of : (xs : List ℕ) → length xs ≡ 0 → xs ≡ []
+none_of [] none = refl
+none_of (x ∷ xs) none = absurd (omega arith)
+
 -- where these bytes lie, at least one
 found_span : (place from : ℕ) (bytes image : List ℕ) (span : KesvuotSpan) → span ≡ span_of (place + from) bytes → bytes ≢ [] → bytes ≡ part from (length bytes) image
     → (span.offset ≡ place + from) × (0 < span.size) × (from + span.size ≤ length image)
 found_span place from bytes image span is some rest = elim (cases_Bool (length bytes == 0)) [
-  | inl none ↦ absurd (some (empty bytes (eqb-true (length bytes) 0 none)))
+  | inl none ↦ absurd (some (none_of bytes (eqb-true (length bytes) 0 none)))
   | inr there ↦
       let here : span ≡ span_at (place + from) (length bytes) = is ∙ rw there refl in
       let offset : span.offset ≡ place + from = ap (λ (s : KesvuotSpan). s.offset) here in
       let size : span.size ≡ length bytes = ap (λ (s : KesvuotSpan). s.size) here in
-      let more : 0 < length bytes = elim (cases_lt 0 (length bytes)) [ inl less ↦ less | inr most ↦ absurd (some (empty bytes (omega arith))) ] in
+      let more : 0 < length bytes = elim (cases_lt 0 (length bytes)) [ inl less ↦ less | inr most ↦ absurd (some (none_of bytes (omega arith))) ] in
       (offset, omega (arith, size), omega (arith, size, ap length rest, length-take (length bytes) (drop from image), length-drop from image))
 ]
-  where
-    empty : (xs : List ℕ) → length xs ≡ 0 → xs ≡ []
-    empty [] none = refl
-    empty (x ∷ xs) none = absurd (omega arith)
 
 pub last_inside : (image : List ℕ) (p : ℕ) → IsSoundImage image (commands_of image) → Contains (segments_of image (commands_of image)) p → 0 < filesize image p → fileoff image p + filesize image p ≤ length image
 last_inside image p sound has some =
@@ -158,3 +158,15 @@ told image place address found unbroken answer = by (supplier image address) ref
               ] in
               subst (IsSourceAt image place address) (sym is_zero) (subst (λ g. IsAtAddress image address (Some g)) (rw (le-ltb _ _ past) refl) at)
         ]
+
+-- what the code finds at the address is the source there
+module _ (image : List ℕ) (place address : ℕ) (found : Option Source) where
+  pub has_none : supplier image address ≡ None → found ≡ None → HasSource image place address found
+  has_none none is = rw none is
+
+  pub has_zero : (s : SegmentView) → supplier image address ≡ Some s → found ≡ Some seen.Zero → length (bytes_from address s) ≡ 0 → HasSource image place address found
+  has_zero s first is empty = rw first (inr (is, none_of (bytes_from address s) empty))
+
+  pub has_bytes : (s : SegmentView) → supplier image address ≡ Some s → found ≡ Some (seen.Bytes (span_of (place + (fileoff s.image s.place + (address - vmaddr s.image s.place))) (bytes_from address s))) → length (bytes_from address s) ≢ 0
+      → HasSource image place address found
+  has_bytes s first is some = rw first (inl (is, λ empty. some (ap length empty)))

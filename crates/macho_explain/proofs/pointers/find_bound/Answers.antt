@@ -9,7 +9,7 @@ use Rattle.macho_fields.specs.Field.{field}
 use Rattle.macho_fields.specs.Segment.{all_segments, fileoff, filesize}
 use Rattle.macho_fields.specs.declared.bytes.Order.TheVariants.{Little}
 use Rattle.macho_tables.proofs.Found.{match_none}
-use Rattle.macho_tables.proofs.SegmentWalks.{passed_more, its_image, its_place}
+use Rattle.macho_tables.proofs.SegmentWalks.{passed_none, passed_more, its_image, its_place}
 use Rattle.macho_tables.specs.Items.{AtItem}
 use Rattle.macho_explain.specs.Explain.{long_at}
 use Rattle.macho_explain.specs.Fixups.{BindsMissing, HasStartsAt, IsEntryAt}
@@ -54,3 +54,16 @@ loop-segment-preserved c =
       omega (arith, few, c.if-index-count.false),
       below_more (λ k. ¬ BindsMissing image chains header place k) index c.loop-segment.invariant.4 not_here,
     )
+
+pub returns-in_err-count : goal.returns-in_err-count
+returns-in_err-count c =
+    let none : seg_count (bytes_of c.args.chains.now.bytes) c.args.chains.now.header ≡ None = ap (field Little 4 (bytes_of c.args.chains.now.bytes)) (sym c.from-starts_offset.ensures) ∙ (sym c.u32_at.ensures ∙ c.in_err-count.was) in
+    rw (c.from_residual.ensures, none) (λ s. s)
+
+pub returns-then-index-count : goal.returns-then-index-count
+returns-then-index-count c =
+    let counted : seg_count (bytes_of c.args.chains.now.bytes) c.args.chains.now.header ≡ Some c.in_ok-count.count = ap (field Little 4 (bytes_of c.args.chains.now.bytes)) (sym c.from-starts_offset.ensures) ∙ (sym c.u32_at.ensures ∙ c.in_ok-count.was) in
+    rw counted (λ (k, less, binds). c.loop-segment.invariant.4 k (omega (arith, less, c.if-index-count.true)) binds)
+
+pub loop-segment-init : goal.loop-segment-init
+loop-segment-init c = (tt, tt, passed_none _, omega arith, λ k less binds. absurd (omega (arith, less)))

@@ -52,3 +52,9 @@ returns c =
     let value = ap (λ (k : Conflict). k.value) c.alone-2.ensures ∙ (c.saturating_add-end.ensures ∙ ap₂ (λ a b. min (a + b) (2 ^ 64 - 1)) start (ap₂ (λ a b. a / b) size step)) in
     let limit = ap (λ (k : Conflict). k.limit) c.alone-2.ensures ∙ (c.indirect_count-count.ensures ∙ ap indirect_count c.in_ok-open.ensures.1) in
     rw c.shows-2.ensures (c.in_ok-at.ensures.0, inr (value, limit))
+
+pub returns-in_err-at : goal.returns-in_err-at
+returns-in_err-at c = rw c.from_residual.ensures (λ s. c.in_err-at.ensures s.1)
+
+pub returns-in_err-open : goal.returns-in_err-open
+returns-in_err-open c = rw c.from_residual-in_err-open.ensures (λ s. s.0 c.in_err-open.ensures)
