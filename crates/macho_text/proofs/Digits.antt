@@ -1,56 +1,50 @@
--- A number's digits, one at a time from the last.
-use Rattle.std.proofs.Common.{◌≡◌, ℕ, ◌+◌, ◌-◌, ◌*◌, ◌/◌, ◌%◌, ◌^◌, ◌<◌, ◌≤◌, ◌==◌, zero, suc, false, true, codes, get_or, List, [], ◌∷◌, ◌++◌, length, drop, arith, refl, ap, ◌∙◌, sym, inl, inr, append_assoc, append-nil}
+-- A number's digits.
+use Rattle.std.proofs.Common.{◌≡◌, ℕ, ◌+◌, ◌-◌, ◌*◌, ◌/◌, ◌%◌, ◌^◌, ◌<◌, ◌≤◌, ◌==◌, ◌≢◌, if◌then◌else◌, max, zero, suc, false, true, codes, get_or, List, [], ◌∷◌, ◌++◌, length, drop, arith, refl, ap, ◌∙◌, sym, inl, inr, append_assoc, append-nil, lit≤}
 use Rattle.std.proofs.Math.Arith.{mod-mul}
-use Rattle.std.proofs.lemmas.Nat.{div-mul-add, mod-mul-add}
-use Rattle.std.proofs.Math.Nat.{le-div_iff_mul-le, div-div-eq-div-mul, mod-lt, div-eq_of_lt, div-lt_iff_lt-mul, mod-eq_of_lt, pow-suc, pow-zero, pow-le-pow_left}
+use Rattle.std.proofs.lemmas.Nat.{div-mul-add, mod-mul-add, pow-add}
+use Rattle.std.proofs.Math.Nat.{le-div_iff_mul-le, div-div-eq-div-mul, mod-lt, div-lt_iff_lt-mul, pow-suc, pow-zero, mul-le-mul_right, one-le-pow, pow-le-pow_right}
 use Rattle.std.proofs.lemmas.Bool.{agree_below_at, cases_Bool, cases_eq}
 use Rattle.std.proofs.lemmas.Grind.{common_steps}
-use Rattle.std.proofs.lemmas.List.{drop-set, length-append, length-drop}
+use Rattle.std.proofs.lemmas.List.{drop-set, drop_all, length-append}
 use Rattle.std.specs.Prelude.{◌⊎◌, slice_set}
 use Rattle.std.specs.Fmt.{digits, digits_onto, digit_glyph}
 
--- the digits of n, at most so many, before those in `after`
-pub digits_before : ℕ → ℕ → ℕ → List ℕ → List ℕ
-digits_before most base n after = digits_onto most base false n after
+-- the last k digits of n, with zeros before the first
+pub last_digits : ℕ → ℕ → ℕ → List ℕ
+last_digits zero base n = []
+last_digits (suc k) base n = last_digits k base (n / base) ++ digit_glyph false (n % base) ∷ []
 
-onto_is : (most base n : ℕ) (after : List ℕ) → digits_onto most base false n after ≡ digits_onto most base false n [] ++ after
-onto_is zero base n after = refl
-onto_is (suc most) base n after =
-    let last = digit_glyph false (n % base) in
-    elim (cases_Bool (n / base == 0)) [
-      | inl t ↦ rw t refl
-      | inr f ↦ rw f (onto_is most base (n / base) (last ∷ after)
-          ∙ sym (append_assoc (digits_onto most base false (n / base) []) (last ∷ []) after)
-          ∙ ap (λ l. l ++ after) (sym (onto_is most base (n / base) (last ∷ []))))
-    ]
+-- how many digits n has, counted up to a limit
+digit_count : ℕ → ℕ → ℕ → ℕ
+digit_count zero base n = 0
+digit_count (suc most) base n = if n / base == 0 then 1 else suc (digit_count most base (n / base))
 
-pub digits_are : (most base n : ℕ) (after : List ℕ) → most ≡ 64 → digits base false n ++ after ≡ digits_before most base n after
-unfolding digits digits_before
-digits_are most base n after e = sym (ap (λ k. digits_onto k base false n after) e ∙ onto_is 64 base n after)
+onto_last : (most base n : ℕ) (after : List ℕ) → digits_onto most base false n after ≡ last_digits (digit_count most base n) base n ++ after
+unfolding last_digits digit_count
+onto_last zero base n after = refl
+onto_last (suc most) base n after = elim (cases_Bool (n / base == 0)) [
+  | inl t ↦ rw t refl
+  | inr f ↦ rw f (onto_last most base (n / base) (digit_glyph false (n % base) ∷ after)
+      ∙ sym (append_assoc (last_digits (digit_count most base (n / base)) base (n / base)) (digit_glyph false (n % base) ∷ []) after))
+]
 
--- the last digit of a number below the base is all of it
-pub last_digit : (k i base n : ℕ) (after : List ℕ) → k ≡ suc i → n / base ≡ 0 → digits_before k base n after ≡ digit_glyph false (n % base) ∷ after
-unfolding digits_before
-last_digit k i base n after e h = rw (e, h) refl
+length_last : (k base n : ℕ) → length (last_digits k base n) ≡ k
+unfolding last_digits
+length_last zero base n = refl
+length_last (suc k) base n = omega (arith, length_last k base (n / base), length-append (last_digits k base (n / base)) (digit_glyph false (n % base) ∷ []))
 
--- the last digit of a larger number goes after the digits of the rest
-pub next_digit : (k i base n : ℕ) (after : List ℕ) → k ≡ suc i → 0 < n / base
-    → digits_before k base n after ≡ digits_before i base (n / base) (digit_glyph false (n % base) ∷ after)
-unfolding digits_before
-next_digit k i base n after e h = rw e (grind arith)
+digits_last : (base n : ℕ) → digits base false n ≡ last_digits (digit_count 64 base n) base n
+unfolding digits
+digits_last base n = onto_last 64 base n [] ∙ append-nil (last_digits (digit_count 64 base n) base n)
 
--- What a loop has put of a number's digits: `whole` is all of them before what stood in the array, `after` are those that were put
--- from the place `start` on, and n is what is left of the number.
-pub record IsLeft (base start n : ℕ) (after whole : List ℕ) : Type 0 where
-  pub some : (0 < n) ⊎ (start ≡ 20) → whole ≡ digits_before (64 - (20 - start)) base n after
-  pub none : n ≡ 0 → start < 20 → whole ≡ after
+length_digits : (base n : ℕ) → length (digits base false n) ≡ digit_count 64 base n
+length_digits base n = ap length (digits_last base n) ∙ length_last (digit_count 64 base n) base n
 
--- before the first digit is put
-pub digits_begin : (base n : ℕ) (after : List ℕ) → IsLeft base 20 n after (digits base false n ++ after)
-digits_begin base n after = record {
-  some = λ _. digits_are (64 - (20 - 20)) base n after refl;
-  none = λ _ less. absurd (omega arith);
-}
+-- before a digit is put, all are left
+pub all_digits : (base n : ℕ) (places : List ℕ) → length places ≡ length (digits base false n)
+    → digits base false n ≡ last_digits (length places) base n ++ drop (length places) places
+all_digits base n places e =
+    rw (drop_all (length places) places (omega arith), e ∙ length_digits base n) (digits_last base n ∙ sym (append-nil (last_digits (digit_count 64 base n) base n)))
 
 -- the last two digits of a number
 high_digit : (base n : ℕ) → 0 < base → n % (base * base) / base ≡ n / base % base
@@ -59,28 +53,19 @@ high_digit base n some = rw (mod-mul n some some) (div-mul-add (n / base % base)
 low_digit : (base n : ℕ) → 0 < base → n % (base * base) % base ≡ n % base
 low_digit base n some = rw (mod-mul n some some) (mod-mul-add (n / base % base) base (n % base) (mod-lt n some))
 
--- a turn of the loop, which puts two digits
-pub two_put : (base start n : ℕ) (after whole : List ℕ) → 0 < base → 0 < n → 0 < n / base → 2 ≤ start → start ≤ 20 → IsLeft base start n after whole
-    → IsLeft base (start - 2) (n / (base * base)) (digit_glyph false (n % (base * base) / base) ∷ digit_glyph false (n % (base * base) % base) ∷ after) whole
-two_put base start n after whole base_is some more two most left =
-    let first : 64 - (20 - start) ≡ suc (suc (64 - (20 - (start - 2)))) = omega arith in
-    let second : suc (64 - (20 - (start - 2))) ≡ suc (64 - (20 - (start - 2))) = refl in
-    let last = left.some (inl some) ∙ next_digit _ (suc (64 - (20 - (start - 2)))) base n after first more in
-    rw (high_digit base n base_is, low_digit base n base_is, sym (div-div-eq-div-mul n base base)) (record {
-      some = λ which. elim which [
-        | inl rest ↦ last ∙ next_digit _ (64 - (20 - (start - 2))) base (n / base) (digit_glyph false (n % base) ∷ after) second rest
-        | inr all ↦ absurd (omega arith)
-      ];
-      none = λ zero_left _. last ∙ last_digit _ (64 - (20 - (start - 2))) base (n / base) (digit_glyph false (n % base) ∷ after) second zero_left;
-    })
+-- two more digits
+pub two_before : (k start base n : ℕ) (after : List ℕ) → start ≡ suc (suc k) → 0 < base
+    → last_digits start base n ++ after
+    ≡ last_digits k base (n / (base * base)) ++ digit_glyph false (n % (base * base) / base) ∷ digit_glyph false (n % (base * base) % base) ∷ after
+unfolding last_digits
+two_before k start base n after e some =
+    let high = digit_glyph false (n / base % base) in
+    let low = digit_glyph false (n % base) in
+    let front = last_digits k base (n / base / base) in
+    rw (e, high_digit base n some, low_digit base n some, sym (div-div-eq-div-mul n base base))
+    (append_assoc (front ++ high ∷ []) (low ∷ []) after ∙ append_assoc front (high ∷ []) (low ∷ after))
 
--- the last turn, which puts one digit
-pub one_put : (base start n : ℕ) (after whole : List ℕ) → n < base → 0 < start → start ≤ 20 → ((0 < n) ⊎ (start ≡ 20)) → IsLeft base start n after whole → whole ≡ digit_glyph false n ∷ after
-one_put base start n after whole below some most which left =
-    let first : 64 - (20 - start) ≡ suc (63 - (20 - start)) = omega arith in
-    left.some which ∙ last_digit _ (63 - (20 - start)) base n after first (div-eq_of_lt below) ∙ ap (λ v. digit_glyph false v ∷ after) (mod-eq_of_lt below)
-
--- digits at the end of what was put
+-- digits at a place
 pub two_set : (start high low : ℕ) (places : List ℕ) → 2 ≤ start → start ≤ length places
     → drop (start - 2) (slice_set (slice_set places (start - 2 + 1) low) (start - 2) high) ≡ high ∷ low ∷ drop start places
 two_set start high low places two within =
@@ -89,61 +74,106 @@ two_set start high low places two within =
     drop-set (slice_set places (start - 2 + 1) low) (start - 2) high (omega arith)
     ∙ ap (λ l. high ∷ l) (drop-set places (start - 2 + 1) low (omega arith) ∙ ap (λ n. low ∷ drop n places) end)
 
-pub one_set : (start digit : ℕ) (places : List ℕ) → 0 < start → start ≤ length places → drop (start - 1) (slice_set places (start - 1) digit) ≡ digit ∷ drop start places
-one_set start digit places some within = grind (arith, common_steps)
+pub first_set : (start base n : ℕ) (places whole : List ℕ) → start ≡ 1 → 0 < length places → whole ≡ last_digits start base n ++ drop start places
+    → slice_set places 0 (digit_glyph false (n % base)) ≡ whole
+unfolding last_digits
+first_set start base n [] whole e some is = absurd (omega arith)
+first_set start base n (first ∷ places) whole e some is = sym (rw e at is)
 
--- how long the digits are
-pub long : (start : ℕ) (digits places before : List ℕ) → length places ≡ 40 → length before ≡ 40 → start ≤ 20 → drop start places ≡ digits ++ drop 20 before → start + length digits ≡ 20
-long start digits places before e f within is = omega (arith, simp (length-drop, length-append) at (ap length is))
-
--- a number below the base has one digit
-pub one_digit : (base n : ℕ) → n < base → digits base false n ≡ digit_glyph false n ∷ []
-one_digit base n small =
-    sym (append-nil (digits base false n)) ∙ digits_are 64 base n [] refl ∙ last_digit 64 63 base n [] refl (div-eq_of_lt small) ∙ ap (λ v. digit_glyph false v ∷ []) (mod-eq_of_lt small)
-
--- a number of 64 bits fits in 20 places
-pub fits_array : (base n : ℕ) → 10 ≤ base → n < 2 ^ 64 → n < base ^ 20
-fits_array base n low h =
-    let power : 10 ^ 20 ≤ base ^ 20 = pow-le-pow_left low 20 in
-    omega arith
+pub pow-one : (base : ℕ) → base ^ 1 ≡ base
+pow-one base = pow-suc base 0 ∙ rw (pow-zero base) (omega arith)
 
 power_more : (k i : ℕ) → k ≡ i + 1 → k ≡ suc i
 power_more k i e = omega arith
 
+-- a digit less is left of a number below a power of the base
 pub less_left : (k i base n : ℕ) → k ≡ i + 1 → 0 < base → n < base ^ k → n / base < base ^ i
 less_left k i base n e some h =
     let more : base ^ k ≡ base ^ i * base = rw (power_more k i e) (pow-suc base i) in
     (div-lt_iff_lt-mul {k = base} {x = n} {y = base ^ i} some).1 (rw more at h)
 
-pub place_left : (k base n : ℕ) → n < base ^ k → 0 < n → 0 < k
-place_left zero base n h some = let one : base ^ 0 ≡ 1 = pow-zero base in omega arith
-place_left (suc k) base n h some = omega arith
+lower_left : (k base n : ℕ) → 0 < base → k ≡ (k - 1) + 1 → ((k ≡ 0) ⊎ (base ^ k ≤ n)) → base ^ (k - 1) ≤ n / base
+lower_left k base n some e low =
+    let more : base ^ k ≡ base ^ (k - 1) * base = ap (λ j. base ^ j) (power_more k (k - 1) e) ∙ pow-suc base (k - 1) in
+    elim low [ inl none ↦ absurd (omega arith) | inr power ↦ (le-div_iff_mul-le {k = base} {x = base ^ (k - 1)} {y = n} some).1 (rw more at power) ]
 
-none_before : (base n : ℕ) (after : List ℕ) → digits_before 0 base n after ≡ after
-unfolding digits_before
-none_before base n after = refl
+-- the first power that is not above a number below the base
+no_power : (k base n : ℕ) → 0 < base → n < base → ((k ≡ 0) ⊎ (base ^ k ≤ n)) → k ≡ 0
+no_power zero base n some small low = refl
+no_power (suc k) base n some small low =
+    let power : base ^ suc k ≤ n = elim low [ inl none ↦ absurd (omega arith) | inr power ↦ power ] in
+    let one : 1 ≤ base ^ k = one-le-pow k base some in
+    let more : 1 * base ≤ base ^ k * base = mul-le-mul_right base one in
+    absurd (omega (arith, pow-suc base k))
 
--- a number has no more digits than places that it fits in
-fits_digits : (most k base n : ℕ) (after : List ℕ) → 0 < base → 0 < k → n < base ^ k → length (digits_before most base n after) ≤ k + length after
-fits_digits zero k base n after some one fits = rw (none_before base n after) (omega arith)
-fits_digits (suc most) k base n after some one fits = elim (cases_eq (n / base) 0) [
-  | inl none ↦ rw (last_digit (suc most) most base n after refl none) (omega arith)
-  | inr some_left ↦
-      let more : 0 < n / base = omega arith in
-      let one_less : k ≡ (k - 1) + 1 = omega arith in
-      let fewer : n / base < base ^ (k - 1) = less_left k (k - 1) base n one_less some fits in
-      let still : 0 < k - 1 = place_left (k - 1) base (n / base) fewer more in
-      let rest = fits_digits most (k - 1) base (n / base) (digit_glyph false (n % base) ∷ after) some still fewer in
-      rw (next_digit (suc most) most base n after refl more) (omega (arith, rest))
+next_power : (k base n : ℕ) → base ≤ n → n < base ^ (k + 1) → k ≡ (k - 1) + 1
+next_power zero base n large high = let one : base ^ 1 ≡ base = pow-one base in absurd (omega arith)
+next_power (suc k) base n large high = omega arith
+
+not_zero : (n : ℕ) → n ≢ 0 → (n == 0) ≡ false
+not_zero n some = grind arith
+
+-- a number with a power of the base at or below it, and the next power above it
+counted : (most k base n : ℕ) → 1 < base → k < most → ((k ≡ 0) ⊎ (base ^ k ≤ n)) → n < base ^ (k + 1) → digit_count most base n ≡ k + 1
+unfolding digit_count
+counted zero k base n more within low high = absurd (omega arith)
+counted (suc most) k base n more within low high = elim (cases_eq (n / base) 0) [
+  | inl none ↦
+      let one : n < 1 * base = (div-lt_iff_lt-mul {k = base} {x = n} {y = 1} (omega arith)).0 (omega arith) in
+      let small : n < base = omega arith in
+      let first : k ≡ 0 = no_power k base n (omega arith) small low in
+      rw (digit_count, none, first) refl
+  | inr some ↦
+      let once = (le-div_iff_mul-le {k = base} {x = 1} {y = n} (omega arith)).0 (omega arith) in
+      let large : base ≤ n = omega arith in
+      let next : k ≡ (k - 1) + 1 = next_power k base n large high in
+      let fewer : n / base < base ^ ((k - 1) + 1) = less_left (k + 1) ((k - 1) + 1) base n (omega arith) (omega arith) high in
+      let below = lower_left k base n (omega arith) next low in
+      rw (not_zero (n / base) some) (omega (arith, counted most (k - 1) base (n / base) more (omega arith) (inr below) fewer))
 ]
 
--- what fits in some places has at most as many digits
-pub short : (base n k : ℕ) → 0 < base → 0 < k → n < base ^ k → length (digits base false n) ≤ k
-unfolding digits digits_before
-short base n k some one fits = omega (arith, fits_digits 64 k base n [] some one fits)
+pub count_is : (k base n : ℕ) → 1 < base → k < 64 → ((k ≡ 0) ⊎ (base ^ k ≤ n)) → n < base ^ (k + 1) → length (digits base false n) ≡ k + 1
+count_is k base n more within low high = length_digits base n ∙ counted 64 k base n more within low high
+
+sixteen : (k : ℕ) → 16 ^ k ≡ 2 ^ (4 * k)
+sixteen zero = pow-zero 16 ∙ sym (pow-zero 2)
+sixteen (suc k) =
+    let more : 4 * suc k ≡ 4 * k + 4 = omega arith in
+    pow-suc 16 k ∙ ap (λ v. v * 16) (sixteen k) ∙ sym (ap (λ v. 2 ^ v) more ∙ pow-add 2 (4 * k) 4)
+
+-- each digit in base 16 has four bits
+pub hex_count : (log n some : ℕ) → some ≡ max n 1 → 2 ^ log ≤ some → some < 2 * 2 ^ log → log < 64 → length (digits 16 false n) ≡ log / 4 + 1
+hex_count log n some e low high within =
+    let power : 2 ^ (4 * (log / 4)) ≤ 2 ^ log = pow-le-pow_right {n = 2} (lit≤ tt) {i = 4 * (log / 4)} {j = log} (omega arith) in
+    let next : 2 ^ (log + 1) ≤ 2 ^ (4 * (log / 4 + 1)) = pow-le-pow_right {n = 2} (lit≤ tt) {i = log + 1} {j = 4 * (log / 4 + 1)} (omega arith) in
+    let twice : 2 ^ (log + 1) ≡ 2 ^ log * 2 = rw (power_more (log + 1) log refl) (pow-suc 2 log) in
+    let first = sixteen (log / 4) in
+    let second = sixteen (log / 4 + 1) in
+    let above : n < 16 ^ (log / 4 + 1) = rw second (omega arith) in
+    elim (cases_eq n 0) [
+      | inl none ↦
+          let none_set : log ≡ 0 = no_power log 2 1 (lit≤ tt) (lit≤ tt) (inr (omega arith)) in
+          count_is (log / 4) 16 n (lit≤ tt) (omega arith) (inl (omega arith)) above
+      | inr more ↦ count_is (log / 4) 16 n (lit≤ tt) (omega arith) (inr (rw first (omega arith))) above
+    ]
 
 same_number : (a b : ℕ) → (a == b) ≡ true → a ≡ b
 same_number a b h = grind arith
+
+-- the powers of 10 with an exponent below 20
+unfoldable pub powers_of_ten : List ℕ
+powers_of_ten = 1 ∷ 10 ∷ 100 ∷ 1000 ∷ 10000 ∷ 100000 ∷ 1000000 ∷ 10000000 ∷ 100000000 ∷ 1000000000 ∷ 10000000000 ∷ 100000000000 ∷ 1000000000000 ∷ 10000000000000
+    ∷ 100000000000000 ∷ 1000000000000000 ∷ 10000000000000000 ∷ 100000000000000000 ∷ 1000000000000000000 ∷ 10000000000000000000 ∷ []
+
+pub power_of_ten : (k : ℕ) → k < 20 → get_or powers_of_ten k 0 ≡ 10 ^ k
+unfolding powers_of_ten
+power_of_ten k h = same_number _ _ (agree_below_at (λ k. get_or powers_of_ten k 0 == 10 ^ k) (λ _. true) 20 k refl h)
+
+-- a number of so many digits is below the next power, or the next is above 2^64
+pub decimal_count : (count n : ℕ) → 0 < count → count ≤ 20 → ((count - 1 ≡ 0) ⊎ (10 ^ (count - 1) ≤ n)) → n < 10 ^ count → count ≡ length (digits 10 false n)
+decimal_count count n some most low high =
+    let all : count - 1 + 1 ≡ count = omega arith in
+    sym (count_is (count - 1) 10 n (lit≤ tt) (omega arith) low (rw all high) ∙ all)
 
 pair_is : (a b x y : ℕ) → a ≡ x → b ≡ y → a ∷ b ∷ [] ≡ x ∷ y ∷ []
 pair_is a b x y e f = rw (e, f) refl
@@ -173,16 +203,3 @@ hex_pair v h =
     let low : get_or hex_pairs (2 * v + 1) 0 ≡ digit_glyph false (v % 16) =
     same_number _ _ (agree_below_at (λ k. get_or hex_pairs (2 * k + 1) 0 == digit_glyph false (k % 16)) (λ _. true) 256 v refl h) in
     pair_is _ _ _ _ high low
-
--- two digits are left of a number that is not a digit
-pub two_left : (base start n : ℕ) → 10 ≤ base → base ≤ n → n < base ^ start → (2 ≤ start) × (0 < n / base) × (n / (base * base) < base ^ (start - 2))
-two_left base start n low more fits =
-    let base_is : 0 < base = omega arith in
-    let some : 0 < n = omega arith in
-    let one : 0 < start = place_left start base n fits some in
-    let first : start ≡ (start - 1) + 1 = omega arith in
-    let rest : 0 < n / base = (le-div_iff_mul-le {k = base} {x = 1} {y = n} base_is).1 (omega arith) in
-    let fewer : n / base < base ^ (start - 1) = less_left start (start - 1) base n first base_is fits in
-    let two : 0 < start - 1 = place_left (start - 1) base (n / base) fewer rest in
-    let second : start - 1 ≡ (start - 2) + 1 = omega arith in
-    (omega arith, rest, rw (sym (div-div-eq-div-mul n base base)) (less_left (start - 1) (start - 2) base (n / base) second base_is fewer))

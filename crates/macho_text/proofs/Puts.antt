@@ -1,7 +1,7 @@
 -- Texts that are put into an array one after the other.
 use Rattle.std.proofs.Common.{◌≡◌, List, ℕ, [], ◌∷◌, ◌++◌, ◌+◌, ◌<◌, ◌≤◌, codes, length, map, take, drop, get_or, arith, refl, sym, subst, ap, ◌∙◌, append_assoc, append-nil}
 use Rattle.std.proofs.lemmas.Grind.{common_steps}
-use Rattle.std.proofs.lemmas.List.{drop_more, drop_all, take-append-le}
+use Rattle.std.proofs.lemmas.List.{drop_more, drop_all, take_all, take-append-le}
 use Rattle.std.proofs.Math.Seq.{take-append-add}
 use borrow.Rule.Slice.PartMut.{put_mid, post_of}
 use Rattle.macho_text.specs.Stream.{joined}
@@ -51,13 +51,14 @@ module _ (f : ℕ → List ℕ) (whole before : List ℕ) (items : List ℕ) (i 
   unfolding joined
   put_items_end h left = sym (append-nil before) ∙ ap (λ xs. before ++ joined (map f xs)) (sym (drop_all i items h)) ∙ left
 
--- the first of some bytes, which are all copied over those after a place
-pub front_put : (n k size : ℕ) (places bytes copied : List ℕ) → n + length bytes ≤ length places → k ≤ length bytes → copied ≡ bytes
-    → take (n + k) (put_mid n size places copied) ≡ take n places ++ take k bytes
-front_put n k size places bytes copied room h is =
+-- bytes that were put over those after a place
+pub over_put : (n count size : ℕ) (places bytes put : List ℕ) → n + count ≤ length places → count ≡ length bytes → put ≡ bytes
+    → take (n + count) (put_mid n size places put) ≡ take n places ++ bytes
+over_put n count size places bytes put room all is =
     let front : length (take n places) ≡ n = grind (arith, common_steps) in
-    rw is (subst (λ m. take (m + k) (put_mid n size places bytes) ≡ take n places ++ take k bytes) front
-    (take-append-add (take n places) (bytes ++ post_of n size places) k ∙ ap (λ l. take n places ++ l) (take-append-le k bytes (post_of n size places) h)))
+    rw is (subst (λ m. take (m + count) (put_mid n size places bytes) ≡ take n places ++ bytes) front
+    (take-append-add (take n places) (bytes ++ post_of n size places) count
+    ∙ ap (λ l. take n places ++ l) (take-append-le count bytes (post_of n size places) (omega arith) ∙ take_all count bytes (omega arith))))
 
 -- the line feed is all that is left
 pub ended : (line : List ℕ) → line ++ codes "\n" ≡ line ++ joined (codes "\n" ∷ [])

@@ -1,8 +1,10 @@
 //! Lines of text, which are put together in an array. The array is written when it is full.
 
-ghost use Rattle.std.specs.Prelude.{◌≡◌, ◌+◌, ◌≤◌, ◌<◌, ◌↔◌, [], ◌++◌, codes, length, take, IsErr, IsTrue, OnOk};
+ghost use Rattle.std.specs.Prelude.{◌≡◌, ◌+◌, ◌≤◌, ◌<◌, ◌↔◌, [], ◌++◌, false, codes, length, take, IsErr, IsTrue, OnOk};
+ghost use Rattle.std.specs.Fmt.{digits};
 ghost use Rattle.macho_text.specs.Writer.{PutsText, HoldsText};
 
+use crate::number::put_digits;
 use crate::stream::Output;
 use crate::transfer::{WriteFault, write_all};
 use std::marker::Model;
@@ -73,20 +75,22 @@ impl Line {
         requires room { length self.old + length bytes.now ≤ PLACES }
         ensures { self.new ≡ self.old ++ bytes.now }
     {
-        self.front(bytes, bytes.len());
-    }
-
-    // Puts the first `count` of the bytes. They are all copied; if their number is a constant,
-    // this takes a few instructions.
-    #[inline(always)]
-    pub(crate) fn front(&mut self, bytes: &[u8], count: usize)
-        requires room { length self.old + length bytes.now ≤ PLACES }
-        requires count { count ≤ length bytes.now }
-        ensures { self.new ≡ self.old ++ take count bytes.now }
-    {
         let end = self.len + bytes.len();
         self.places[self.len..end].copy_from_slice(bytes);
-        self.len += count;
+        self.len = end;
+    }
+
+    // Puts the digits of a number in a base from 10 to 16, which are so many.
+    pub(crate) fn number<const BASE: u64>(&mut self, number: u64, count: usize)
+        requires low { 10 ≤ BASE }
+        requires high { BASE ≤ 16 }
+        requires count { count ≡ length (digits BASE false number) }
+        requires room { length self.old + count ≤ PLACES }
+        ensures { self.new ≡ self.old ++ digits BASE false number }
+    {
+        let end = self.len + count;
+        put_digits::<BASE>(number, &mut self.places[self.len..end]);
+        self.len = end;
     }
 
     /// Puts a word of any length. Without room for it, the bytes that are held are written

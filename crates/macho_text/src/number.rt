@@ -1,14 +1,11 @@
 //! Numbers as text.
 
-ghost use Rattle.std.specs.Prelude.{◌≡◌, ◌+◌, ◌-◌, ◌*◌, ◌/◌, ◌%◌, ◌<◌, ◌≤◌, [], ◌∷◌, ◌++◌, false, codes, drop, length, map};
+ghost use Rattle.std.specs.Prelude.{◌≡◌, ◌+◌, ◌*◌, ◌/◌, ◌%◌, ◌<◌, ◌≤◌, [], ◌∷◌, ◌++◌, false, length, map};
 ghost use Rattle.std.specs.Fmt.{decimal, digits, digit_glyph};
 ghost use Rattle.macho_text.specs.Stream.{joined};
 ghost use Rattle.macho_text.specs.Number.{byte_digits, hex, prefixed_hex, version_text};
 
 use crate::line::{Line, PLACES};
-
-// How many digits a number of 64 bits has at most, in base 10.
-const DIGITS: usize = 20;
 
 static LOWER_DIGITS: [u8; 16] = *b"0123456789abcdef";
 
@@ -29,6 +26,30 @@ static HEX_PAIRS: [u8; 512] = *b"000102030405060708090a0b0c0d0e0f101112131415161
       a0a1a2a3a4a5a6a7a8a9aaabacadaeafb0b1b2b3b4b5b6b7b8b9babbbcbdbebf\
       c0c1c2c3c4c5c6c7c8c9cacbcccdcecfd0d1d2d3d4d5d6d7d8d9dadbdcdddedf\
       e0e1e2e3e4e5e6e7e8e9eaebecedeeeff0f1f2f3f4f5f6f7f8f9fafbfcfdfeff";
+
+// The power of 10 with each exponent, up to the last below 2^64.
+static POWERS_OF_TEN: [u64; 20] = [
+    1,
+    10,
+    100,
+    1_000,
+    10_000,
+    100_000,
+    1_000_000,
+    10_000_000,
+    100_000_000,
+    1_000_000_000,
+    10_000_000_000,
+    100_000_000_000,
+    1_000_000_000_000,
+    10_000_000_000_000,
+    100_000_000_000_000,
+    1_000_000_000_000_000,
+    10_000_000_000_000_000,
+    100_000_000_000_000_000,
+    1_000_000_000_000_000_000,
+    10_000_000_000_000_000_000,
+];
 
 // The digit of a value below 16.
 fn digit(value: u8, upper: bool) -> u8
@@ -77,54 +98,55 @@ fn hex_pair(value: usize) -> [u8; 2]
     [HEX_PAIRS[2 * value], HEX_PAIRS[2 * value + 1]]
 }
 
-// Puts the digits of a number in a base from 10 to 16 before the place `DIGITS` of the array, two at a
-// time from the last, and returns where they begin.
-fn put_digits<const BASE: u64>(number: u64, places: &mut [u8; 2 * DIGITS]) -> usize
+// How many digits a number has in base 10.
+fn decimal_length(number: u64) -> usize
+    ensures length { result ≡ length (digits 10 false number) }
+    ensures most { result ≤ 20 }
+{
+    let mut count = 1;
+    while count < POWERS_OF_TEN.len() && POWERS_OF_TEN[count] <= number {
+        count += 1;
+    }
+    count
+}
+
+// How many digits a number has in base 16: one for each four bits, but one at least.
+fn hex_length(number: u64) -> usize
+    ensures length { result ≡ length (digits 16 false number) }
+    ensures most { result ≤ 16 }
+{
+    number.max(1).ilog2() as usize / 4 + 1
+}
+
+// Fills the places with the digits of a number in a base from 10 to 16, two at a time from the last.
+pub(crate) fn put_digits<const BASE: u64>(number: u64, places: &mut [u8])
     requires low { 10 ≤ BASE }
     requires high { BASE ≤ 16 }
-    ensures start { result + length (digits BASE false number) ≡ DIGITS }
-    ensures digits { drop result places.new ≡ digits BASE false number ++ drop DIGITS places.old }
+    requires count { length places.old ≡ length (digits BASE false number) }
+    ensures { places.new ≡ digits BASE false number }
 {
     let mut rest = number;
-    let mut start = DIGITS;
-    while rest >= BASE {
+    let mut start = places.len();
+    while start >= 2 {
         start -= 2;
         let [high, low] = digit_pair::<BASE>(rest % (BASE * BASE));
         places[start + 1] = low;
         places[start] = high;
         rest /= BASE * BASE;
     }
-    if rest > 0 || start == DIGITS {
-        start -= 1;
-        places[start] = digit(rest as u8, false);
+    if start == 1 {
+        places[0] = digit((rest % BASE) as u8, false);
     }
-    start
 }
 
 impl Line {
-    // Puts the digits of a number in a base from 10 to 16.
-    fn number<const BASE: u64>(&mut self, number: u64)
-        requires low { 10 ≤ BASE }
-        requires high { BASE ≤ 16 }
-        requires room { length self.old + DIGITS ≤ PLACES }
-        ensures text { self.new ≡ self.old ++ digits BASE false number }
-    {
-        if number < BASE {
-            self.text(&[digit(number as u8, false)]);
-            return;
-        }
-        let mut digits = [0; 2 * DIGITS];
-        let start = put_digits::<BASE>(number, &mut digits);
-        self.front(&digits[start..start + DIGITS], DIGITS - start);
-    }
-
     /// Puts a number in base 10.
     pub fn decimal(&mut self, number: u64)
         requires room { length self.old + 20 ≤ PLACES }
         ensures text { self.new ≡ self.old ++ decimal number }
         ensures end { length self.new ≤ length self.old + 20 }
     {
-        self.number::<10>(number);
+        self.number::<10>(number, decimal_length(number));
     }
 
     /// Puts a number in base 16, as `0x1e8`.
@@ -144,7 +166,7 @@ impl Line {
         ensures text { self.new ≡ self.old ++ hex number }
         ensures end { length self.new ≤ length self.old + 16 }
     {
-        self.number::<16>(number);
+        self.number::<16>(number, hex_length(number));
     }
 
     /// Puts a version X.Y.Z that has the form `xxxx.yy.zz`, 16, 8 and 8 bits.

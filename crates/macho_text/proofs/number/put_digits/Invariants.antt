@@ -1,16 +1,15 @@
-use Rattle.std.proofs.Common.{◌≡◌, ◌<◌, ◌≤◌, ◌^◌, ◌++◌, false, drop, length}
+use Rattle.std.proofs.Common.{◌≡◌, ◌≤◌, ◌++◌, false, drop, length}
 use Rattle.std.specs.Fmt.{digits}
-use Rattle.macho_text.proofs.Digits.{IsLeft}
+use Rattle.macho_text.proofs.Digits.{last_digits}
 use Rattle.macho_text.proofs.number.put_digits.Given as goal
 
--- the digits of what is left of the number go before those in the array
-abbrev pub invariant-loop-rest : goal.invariant-loop-rest
-invariant-loop-rest g l = record {
-  all_places : length l.places ≡ 40;
-  in_array : l.start ≤ 20;
-  fits : l.rest < g.row.BASE ^ l.start;
-  left : IsLeft g.row.BASE l.start l.rest (drop l.start l.places) (digits g.row.BASE false l.fn.number ++ drop 20 l.fn.places);
+-- the digits of what is left of the number go before those that were put
+abbrev pub invariant-loop-start : goal.invariant-loop-start
+invariant-loop-start g l = record {
+  all_places : length l.places ≡ length l.fn.places;
+  in_array : l.start ≤ length l.places;
+  left : digits g.row.BASE false l.fn.number ≡ last_digits l.start g.row.BASE l.rest ++ drop l.start l.places;
 }
 
-abbrev pub decreases-loop-rest : goal.decreases-loop-rest
-decreases-loop-rest g l = l.rest
+abbrev pub decreases-loop-start : goal.decreases-loop-start
+decreases-loop-start g l = l.start

@@ -1,8 +1,6 @@
-use Rattle.std.proofs.Common.{arith, ap, length, lit≤}
-use Rattle.std.proofs.lemmas.Fmt.{length-decimal-le}
+use Rattle.std.proofs.Common.{arith, ap, length}
 use Rattle.std.proofs.lemmas.List.{length-append}
 use Rattle.macho_text.proofs.line.Line.decimal.Goals as goal
 
 pub returns-clause-end : goal.returns-clause-end
-returns-clause-end c =
-    omega (arith, simp length-append at (ap length c.number.ensures.text), length-decimal-le 20 c.args.number (lit≤ tt) (omega arith) (omega arith))
+returns-clause-end c = omega (arith, simp length-append at (ap length c.number.ensures), c.decimal_length.ensures.length)
