@@ -1,5 +1,5 @@
 -- The first command of each unique kind.
-use Rattle.std.proofs.Common.{◌≡◌, ◌==◌, ◌&&◌, ℕ, suc, zero, ◌<◌, List, [], ◌∷◌, ◌++◌, Bool, true, false, not, cond}
+use Rattle.std.proofs.Common.{◌≡◌, ◌≢◌, ◌==◌, ◌&&◌, ℕ, suc, zero, ◌<◌, List, [], ◌∷◌, ◌++◌, Bool, true, false, not, cond}
 use Rattle.std.proofs.Common.{map, length, set, get_or, Contains, find, Option, Some, None, refl, sym, ap, ap₂, ◌∙◌, subst, arith, inl, inr}
 use Rattle.std.specs.Prelude.{⊤, unwrap_or}
 use Rattle.std.specs.List.{list_any, position_or_len}
@@ -13,6 +13,7 @@ use Rattle.std.proofs.lemmas.List.Sums.{fails_before_first}
 use Rattle.macho_fields.specs.Image.{command_cmd}
 use Rattle.macho_fields.specs.LoadCommands.{structure_of, unique_commands, unique_cmds, unique_index, IsUnique}
 use Rattle.macho_fields.specs.declared.header.loader.TheConstants as loader
+use Rattle.macho_fields.specs.declared.load_command.Structure.{Structure}
 use Rattle.macho_fields.specs.LoadCommands.{LoadCommand}
 use Rattle.macho_fields.specs.declared.load_command.Structure.TheVariants.{SymtabCommand}
 use Rattle.macho_fields.proofs.Lists.{none_by_test, none_in_nil, contains_first, contains_later, first_or_later}
@@ -225,8 +226,12 @@ unlisted_is_not_unique cmd none unique = false≢true (sym (none_found (λ comma
     first_is_none None b is = refl
     first_is_none (Some x) b is = absurd (cc)
 
-pub unlisted_is_no_segment : (cmd : ℕ) → structure_of cmd ≡ None → ¬ (cmd ≡ loader.LC_SEGMENT_64)
-unlisted_is_no_segment cmd none same = let some = subst (λ n. structure_of n ≡ None) same none in absurd (cc)
+pub unlisted_is_not : (known : ℕ) (s : Structure) → structure_of known ≡ Some s → (cmd : ℕ) → structure_of cmd ≡ None → cmd ≢ known
+unlisted_is_not known s listed cmd none same = let missing : Some s ≡ None = sym listed ∙ sym (ap structure_of same) ∙ none in absurd (cc)
 
+-- a command of one of these kinds may come any number of times
 pub segment_is_not_unique : (cmd : ℕ) → cmd ≡ loader.LC_SEGMENT_64 → ¬ IsUnique cmd
 segment_is_not_unique cmd same unique = false≢true (subst IsUnique same unique)
+
+pub build_is_not_unique : (cmd : ℕ) → cmd ≡ loader.LC_BUILD_VERSION → ¬ IsUnique cmd
+build_is_not_unique cmd same unique = false≢true (subst IsUnique same unique)

@@ -38,21 +38,24 @@ held image cmd command s listed opened has =
 abbrev pub AreAll : List ℕ → List CommandView → Type 0
 AreAll image all = all ≡ map (command_at image) (commands_of image)
 
--- the commands of one kind
-pub all_kept : (image : List ℕ) (all : List CommandView) (cmd : ℕ) → AreAll image all → left_with_cmd cmd all ≡ map (command_at image) (with_cmd image cmd (commands_of image))
+-- those of one kind among the commands that a view begins with are the image's
+abbrev pub AreKept : List ℕ → List CommandView → ℕ → Type 0
+AreKept image all cmd = left_with_cmd cmd all ≡ map (command_at image) (with_cmd image cmd (commands_of image))
+
+pub all_kept : (image : List ℕ) (all : List CommandView) (cmd : ℕ) → AreAll image all → AreKept image all cmd
 all_kept image all cmd is = ap (left_with_cmd cmd) is ∙ left_with_cmd-map image cmd (commands_of image)
 
-pub all_inside : (image : List ℕ) (all : List CommandView) (cmd : ℕ) (s : Structure) → structure_of cmd ≡ Some s → IsOpened image → AreAll image all
+pub all_inside : (image : List ℕ) (all : List CommandView) (cmd : ℕ) (s : Structure) → structure_of cmd ≡ Some s → IsOpened image → AreKept image all cmd
     → LieInside image (structure_size s) (left_with_cmd cmd all)
 all_inside image all cmd s listed opened is =
     let places = with_cmd image cmd (commands_of image) in
-    subst (LieInside image (structure_size s)) (sym (all_kept image all cmd is)) (All-map (λ c. c.place + structure_size s ≤ length image) (command_at image) places
+    subst (LieInside image (structure_size s)) (sym is) (All-map (λ c. c.place + structure_size s ≤ length image) (command_at image) places
     (λ k d less. held image cmd _ s listed opened (All-contains_itself places k d less)))
 
 -- what g reads of each of them
-pub all_seen : {B : Type 0} (g : ℕ → B) (image : List ℕ) (all : List CommandView) (cmd : ℕ) → AreAll image all
+pub all_seen : {B : Type 0} (g : ℕ → B) (image : List ℕ) (all : List CommandView) (cmd : ℕ) → AreKept image all cmd
     → map (λ c. g c.place) (left_with_cmd cmd all) ≡ map g (with_cmd image cmd (commands_of image))
-all_seen g image all cmd is = ap (map (λ c. g c.place)) (all_kept image all cmd is) ∙ map-places g image (with_cmd image cmd (commands_of image))
+all_seen g image all cmd is = ap (map (λ c. g c.place)) is ∙ map-places g image (with_cmd image cmd (commands_of image))
 
 pub got_first : (xs : List ℕ) (x : ℕ) → slice_get xs 0 ≡ Some x → Contains xs x
 got_first [] x is = absurd (cc)

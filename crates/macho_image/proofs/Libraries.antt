@@ -1,5 +1,5 @@
 -- The libraries of an opened image.
-use Rattle.std.proofs.Common.{◌≡◌, ℕ, List, [], ◌∷◌, map, Bool, true, All, Contains, Option, Some, refl, sym, ap, ◌∙◌, subst, slice_index_or}
+use Rattle.std.proofs.Common.{◌≡◌, ℕ, List, map, Bool, true, All, Contains, Option, Some, refl, sym, ap, ◌∙◌, subst, slice_index_or}
 use Rattle.std.proofs.lemmas.List.Elements.{All-map, All-contains_itself, filter_passes, All-filter}
 use Rattle.macho_fields.specs.Image.{command_cmd, commands_of}
 use Rattle.macho_fields.specs.LoadCommands.{structure_of, has_name, names_library}
@@ -8,13 +8,13 @@ use Rattle.macho_fields.proofs.LoadCommands.{library_structure}
 use Rattle.macho_fields.proofs.Options.{of_some}
 use Rattle.macho_image.specs.Opened.{IsOpened}
 use Rattle.macho_image.specs.Command.{CommandView, command_at, first_with_cmd}
-use Rattle.macho_image.specs.Library.{libraries, dylib_at, libraries_left, dylibs_left}
-use Rattle.macho_image.specs.Views.{HoldsLibrary, HoldLibraries}
+use Rattle.macho_image.specs.Library.{libraries, dylib_at, dylibs_left}
+use Rattle.macho_image.specs.Views.{HaveLibraries, HoldsLibrary, HoldLibraries}
 use Rattle.macho_fields.proofs.Parts.{with_cmd_is, with_cmd_among}
 use Rattle.macho_fields.specs.declared.header.loader.TheConstants as loader
-use Rattle.macho_image.proofs.Kept.{AreAll, structure_held, got_first}
+use Rattle.macho_image.proofs.Kept.{structure_held, got_first}
 use Rattle.macho_image.proofs.Named.{ended}
-use Rattle.macho_image.proofs.WithOneCmd.{keep_or_pass, map-places}
+use Rattle.macho_image.proofs.WithOneCmd.{map-places}
 
 held_library : (image : List ℕ) (command : ℕ) → IsOpened image → Contains (commands_of image) command → names_library (command_cmd image command) ≡ true → HoldsLibrary image command
 held_library image command opened has is =
@@ -31,22 +31,14 @@ all_held image opened k d less =
     let among : Contains commands (slice_index_or (libraries image commands) k d) = All-filter test (Contains commands) commands (All-contains_itself commands) k d less in
     held_library image _ opened among passes
 
-libraries_left-map : (image xs : List ℕ) → libraries_left (map (command_at image) xs) ≡ map (command_at image) (libraries image xs)
-libraries_left-map image [] = refl
-libraries_left-map image (x ∷ xs) =
-    keep_or_pass image x (libraries_left (map (command_at image) xs)) (libraries image xs) (names_library (command_cmd image x)) (libraries_left-map image xs)
-
-pub libraries_kept : (image : List ℕ) (all : List CommandView) → AreAll image all → libraries_left all ≡ map (command_at image) (libraries image (commands_of image))
-libraries_kept image all is = ap libraries_left is ∙ libraries_left-map image (commands_of image)
-
-pub all_hold : (image : List ℕ) (all : List CommandView) → IsOpened image → AreAll image all → HoldLibraries image all
+pub all_hold : (image : List ℕ) (all : List CommandView) → IsOpened image → HaveLibraries image all → HoldLibraries image all
 all_hold image all opened is =
-    subst (All (λ c. HoldsLibrary image c.place)) (sym (libraries_kept image all is))
+    subst (All (λ c. HoldsLibrary image c.place)) (sym is)
     (All-map (λ c. HoldsLibrary image c.place) (command_at image) (libraries image (commands_of image)) (all_held image opened))
 
-pub libraries_seen : (image : List ℕ) (all : List CommandView) → AreAll image all → dylibs_left image all ≡ map (dylib_at image) (libraries image (commands_of image))
+pub libraries_seen : (image : List ℕ) (all : List CommandView) → HaveLibraries image all → dylibs_left image all ≡ map (dylib_at image) (libraries image (commands_of image))
 libraries_seen image all is =
-    ap (map (λ c. dylib_at image c.place)) (libraries_kept image all is) ∙ map-places (dylib_at image) image (libraries image (commands_of image))
+    ap (map (λ c. dylib_at image c.place)) is ∙ map-places (dylib_at image) image (libraries image (commands_of image))
 
 -- the LC_ID_DYLIB of an image names a library
 pub first_library : (image bytes : List ℕ) (place : ℕ) (found : Option ℕ) → IsOpened image → bytes ≡ image

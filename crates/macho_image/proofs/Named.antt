@@ -13,7 +13,7 @@ use Rattle.macho_fields.proofs.Parts.{with_cmd_is, with_cmd_among}
 use Rattle.macho_image.specs.Command.{CommandView, command_at, first_with_cmd}
 use Rattle.macho_image.specs.Opened.{IsOpened}
 use Rattle.macho_image.specs.Views.{HoldsName, HoldNames}
-use Rattle.macho_image.proofs.Kept.{AreAll, held, all_kept, got_first}
+use Rattle.macho_image.proofs.Kept.{AreKept, held, got_first}
 use Rattle.macho_image.proofs.Opened.{opened_keeps}
 use Rattle.macho_image.proofs.OpenedWalk.{opened_commands}
 
@@ -37,11 +37,11 @@ held_name image cmd command s listed named opened has =
           (with_cmd_among image (commands_of image) cmd command has);
     }
 
-pub all_names_held : (image : List ℕ) (all : List CommandView) (cmd : ℕ) (s : Structure) → structure_of cmd ≡ Some s → has_name s ≡ true → IsOpened image → AreAll image all
+pub all_names_held : (image : List ℕ) (all : List CommandView) (cmd : ℕ) (s : Structure) → structure_of cmd ≡ Some s → has_name s ≡ true → IsOpened image → AreKept image all cmd
     → HoldNames image cmd all
 all_names_held image all cmd s listed named opened is =
     let places = with_cmd image cmd (commands_of image) in
-    subst (All (λ c. HoldsName image c.place)) (sym (all_kept image all cmd is)) (All-map (λ c. HoldsName image c.place) (command_at image) places
+    subst (All (λ c. HoldsName image c.place)) (sym is) (All-map (λ c. HoldsName image c.place) (command_at image) places
     (λ k d less. held_name image cmd _ s listed named opened (All-contains_itself places k d less)))
 
 -- the name of the first of them

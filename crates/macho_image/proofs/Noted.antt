@@ -1,20 +1,21 @@
 -- One command more among those that a walk has passed, and what is noted of it.
-use Rattle.std.proofs.Common.{◌≡◌, ◌≢◌, ℕ, zero, suc, ◌+◌, ◌-◌, ◌≤◌, ◌<◌, List, [], ◌∷◌, ◌++◌, length, filter, Contains, Bool, true, false, Option, None, refl, sym, ap, ap₂, ◌∙◌, subst, arith, inl, inr}
+use Rattle.std.proofs.Common.{◌≡◌, ◌≢◌, ℕ, zero, suc, ◌+◌, ◌-◌, ◌≤◌, ◌<◌, List, [], ◌∷◌, ◌++◌, length, filter, Contains, Bool, true, false, Option, None, ◌==◌, refl, sym, ap, ap₂, ◌∙◌, subst, arith, inl, inr}
 use Rattle.std.specs.Option.{option_map_or}
-use Rattle.std.proofs.lemmas.Bool.{cases_lt, eq-eqb, ne_eqb}
+use Rattle.std.proofs.lemmas.Bool.{cases_lt, ne_eqb}
 use Rattle.std.proofs.lemmas.List.{append-nil}
 use Rattle.std.proofs.lemmas.List.Elements.{Contains-append_right, filter-append}
 use Rattle.macho_fields.specs.Image.{command_count, command_cmd, command_size, commands_of, IsGood, Follow, places_from}
-use Rattle.macho_fields.specs.LoadCommands.{structure_of}
+use Rattle.macho_fields.specs.LoadCommands.{is_dylib_command, structure_of}
 use Rattle.macho_fields.specs.declared.header.loader.TheConstants as loader
 use Rattle.macho_fields.specs.declared.load_command.Structure.{Structure}
+use Rattle.macho_fields.specs.declared.load_command.Structure.TheVariants as structure
 use Rattle.macho_fields.proofs.Lists.{none_in_nil, first_or_later}
 use Rattle.macho_fields.proofs.Parts.{command_good}
 use Rattle.macho_image.specs.Opened.{IsOpened}
-use Rattle.macho_image.specs.Walk.{AreFirst, AreLandmarks, IsAt, IsRange, Passes, first_commands, has_tables, is_segment, names_table}
+use Rattle.macho_image.specs.Walk.{AreFirst, AreLandmarks, IsAt, IsRange, Passes, first_commands, has_tables, is_build, is_library, is_segment, names_table}
 use Rattle.macho_image.specs.declared.landmarks.CommandRange.{CommandRange}
 use Rattle.macho_image.specs.declared.landmarks.Landmarks.{Landmarks}
-use Rattle.macho_image.proofs.FirstWithCmd.{first_kept, unlisted_is_not_unique, unlisted_is_no_segment}
+use Rattle.macho_image.proofs.FirstWithCmd.{first_kept, unlisted_is_not_unique, unlisted_is_not}
 use Rattle.macho_image.proofs.OpenedWalk.{opened_commands}
 use Rattle.macho_image.proofs.Places.{at_first}
 
@@ -117,26 +118,30 @@ module _ (image : List ℕ) (walked place : ℕ) (at : IsAt image walked place) 
 
   -- what the tests answer of a command, by its cmd
   module _ (cmd : ℕ) (is : cmd ≡ command_cmd image place) where
-    pub passes_as_segment : cmd ≡ loader.LC_SEGMENT_64 → is_segment image place ≡ true
-    passes_as_segment same = eq-eqb (command_cmd image place) loader.LC_SEGMENT_64 (sym is ∙ same)
+    -- where the cmd is known, or known not to be
+    pub at_cmd : (test : ℕ → Bool) (known : ℕ) → cmd ≡ known → test (command_cmd image place) ≡ test known
+    at_cmd test known same = ap test (sym is ∙ same)
 
-    pub fails_as_segment : cmd ≢ loader.LC_SEGMENT_64 → is_segment image place ≡ false
-    fails_as_segment other = ne_eqb (command_cmd image place) loader.LC_SEGMENT_64 (λ same. other (is ∙ same))
+    pub other_cmd : (known : ℕ) → cmd ≢ known → (command_cmd image place == known) ≡ false
+    other_cmd known other = ne_eqb (command_cmd image place) known (λ same. other (is ∙ same))
 
-    pub names_by : (o : Option Structure) → structure_of cmd ≡ o → names_table image place ≡ option_map_or has_tables o false
-    names_by o listed = ap (λ found. option_map_or has_tables found false) (sym (ap structure_of is) ∙ listed)
-
-    -- a segment names no table
-    pub segment_names_none : cmd ≡ loader.LC_SEGMENT_64 → names_table image place ≡ false
-    segment_names_none same = ap (λ number. option_map_or has_tables (structure_of number) false) (sym is ∙ same)
+    -- where its structure is known, or known to be missing
+    pub listed_by : (test : Structure → Bool) (o : Option Structure) → structure_of cmd ≡ o → option_map_or test (structure_of (command_cmd image place)) false ≡ option_map_or test o false
+    listed_by test o listed = ap (λ found. option_map_or test found false) (sym (ap structure_of is) ∙ listed)
 
     -- a landmark is a listed command
     pub landmarks_kept : (landmarks : Landmarks) → structure_of cmd ≡ None → AreLandmarks image walked landmarks → AreLandmarks image (walked + 1) landmarks
     landmarks_kept landmarks none are = record {
       first = subst (λ ps. AreFirst image ps landmarks.unique) (sym passed_next) (first_kept image (first_commands image walked) landmarks.unique are.first cmd place (unlisted_is_not_unique cmd none) is passed_header);
-      segments = range_kept (is_segment image) landmarks.segments are.segments (fails_as_segment (unlisted_is_no_segment cmd none));
-      tables = range_kept (names_table image) landmarks.tables are.tables (names_by None none);
+      segments = range_kept (is_segment image) landmarks.segments are.segments (other_cmd loader.LC_SEGMENT_64 (unlisted_is_not loader.LC_SEGMENT_64 structure.SegmentCommand64 refl cmd none));
+      builds = range_kept (is_build image) landmarks.builds are.builds (other_cmd loader.LC_BUILD_VERSION (unlisted_is_not loader.LC_BUILD_VERSION structure.BuildVersionCommand refl cmd none));
+      libraries = range_kept (is_library image) landmarks.libraries are.libraries (listed_by is_dylib_command None none);
+      tables = range_kept (names_table image) landmarks.tables are.tables (listed_by has_tables None none);
     }
+
+pub no_dylib : (s : Structure) → (s ≡ structure.DylibCommand → ⊥) → is_dylib_command s ≡ false
+no_dylib structure.DylibCommand other = absurd (other refl)
+no_dylib s other = refl
 
 pub no_range : (image : List ℕ) (test : ℕ → Bool) → IsRange image test 0 (record { place = 32; before = 0; count = 0 })
 no_range image test = record { most = omega arith; start = at_first image; none_before = refl; none_after = refl; first = λ some. absurd (omega arith); last = λ some. absurd (omega arith) }

@@ -7,21 +7,22 @@ use Rattle.std.proofs.lemmas.Bool.{cases_Bool, ne_eqb, true≢false}
 use Rattle.std.proofs.lemmas.List.{append-nil, append_assoc, append_cancel_left}
 use Rattle.std.proofs.lemmas.List.Elements.{All-contains_itself, Contains-append_left, Contains-append_right, filter-append}
 use Rattle.macho_fields.specs.Image.{command_cmd, command_count, command_size, commands_of, IsGood, places_from}
-use Rattle.macho_fields.specs.LoadCommands.{structure_of, table_fields}
+use Rattle.macho_fields.specs.LoadCommands.{names_library, structure_of, table_fields}
 use Rattle.macho_fields.specs.Symbol.{table_at, tables_of}
 use Rattle.macho_fields.specs.declared.header.loader.TheConstants as loader
 use Rattle.macho_fields.specs.declared.load_command.Structure.{Structure}
 use Rattle.macho_fields.specs.declared.load_command.TableFields.{TableFields}
 use Rattle.macho_fields.proofs.Parts.{command_good}
 use Rattle.macho_image.specs.Command.{CommandView, command_at, commands_left}
+use Rattle.macho_image.specs.Library.{libraries, libraries_left}
 use Rattle.macho_image.specs.Opened.{IsOpened}
-use Rattle.macho_image.specs.Walk.{CanWalk, IsRange, Passes, first_commands, has_tables, is_segment, names_table}
-use Rattle.macho_image.specs.Views.{HaveSegments}
+use Rattle.macho_image.specs.Walk.{CanWalk, IsRange, Passes, first_commands, has_tables, is_build, is_library, is_segment, names_table}
+use Rattle.macho_image.specs.Views.{HaveBuilds, HaveLibraries, HaveSegments}
 use Rattle.macho_image.specs.Table.{HaveTables}
 use Rattle.macho_image.specs.declared.landmarks.CommandRange.{CommandRange}
 use Rattle.macho_image.proofs.Noted.{passed_and, passed_are, passed_next}
 use Rattle.macho_image.proofs.OpenedWalk.{opened_commands, opened_inside}
-use Rattle.macho_image.proofs.WithOneCmd.{left_with_cmd-map}
+use Rattle.macho_image.proofs.WithOneCmd.{keep_or_pass, left_with_cmd-map}
 
 -- the first of some places, and those after them
 split : (image : List ℕ) (start count all : ℕ) → count ≤ all → (after : List ℕ) × (places_from image start all ≡ places_from image start count ++ after)
@@ -119,6 +120,21 @@ pub have_segments : (image : List ℕ) (opened : IsOpened image) (range : Comman
     → HaveSegments image (commands_left image range.place range.count)
 have_segments image opened range are =
     left_with_cmd-map image loader.LC_SEGMENT_64 (places_from image range.place range.count) ∙ ap (map (command_at image)) (kept image opened (is_segment image) range are)
+
+pub have_builds : (image : List ℕ) (opened : IsOpened image) (range : CommandRange) → IsRange image (is_build image) (command_count image) range
+    → HaveBuilds image (commands_left image range.place range.count)
+have_builds image opened range are =
+    left_with_cmd-map image loader.LC_BUILD_VERSION (places_from image range.place range.count) ∙ ap (map (command_at image)) (kept image opened (is_build image) range are)
+
+libraries_left-map : (image xs : List ℕ) → libraries_left (map (command_at image) xs) ≡ map (command_at image) (libraries image xs)
+libraries_left-map image [] = refl
+libraries_left-map image (x ∷ xs) =
+    keep_or_pass image x (libraries_left (map (command_at image) xs)) (libraries image xs) (names_library (command_cmd image x)) (libraries_left-map image xs)
+
+pub have_libraries : (image : List ℕ) (opened : IsOpened image) (range : CommandRange) → IsRange image (is_library image) (command_count image) range
+    → HaveLibraries image (commands_left image range.place range.count)
+have_libraries image opened range are =
+    libraries_left-map image (places_from image range.place range.count) ∙ ap (map (command_at image)) (kept image opened (is_library image) range are)
 
 -- what the commands of a range are in the bytes of an image, they are in what the image is seen as
 pub can_walk_seen : {bytes image : List ℕ} {place left : ℕ} → bytes ≡ image → CanWalk bytes place left → CanWalk image place left

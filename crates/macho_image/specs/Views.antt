@@ -3,13 +3,14 @@ use Rattle.std.specs.Prelude.{◌≡◌, ℕ, ◌+◌, ◌*◌, ◌≤◌, List}
 use Rattle.std.specs.Prelude.{length, map, All}
 use Rattle.macho_fields.specs.Command.{name_start}
 use Rattle.macho_fields.specs.Field.{HasZero}
+use Rattle.macho_fields.specs.Image.{commands_of, with_cmd}
 use Rattle.macho_fields.specs.LoadCommands.{structure_size}
 use Rattle.macho_fields.specs.Segment.{nsects, all_segments}
 use Rattle.macho_fields.specs.declared.header.loader.TheConstants as loader
 use Rattle.macho_fields.specs.declared.load_command.Structure.TheVariants.{DylibCommand}
 use Rattle.macho_fields.specs.declared.load_command.Structure.TheVariants.{BuildVersionCommand}
 use Rattle.macho_image.specs.Command.{CommandView, command_at, left_with_cmd}
-use Rattle.macho_image.specs.Library.{libraries_left}
+use Rattle.macho_image.specs.Library.{libraries, libraries_left}
 
 -- the structure of a segment and its sections lie inside the image
 abbrev pub HoldsSegment : List ℕ → ℕ → Type 0
@@ -22,6 +23,17 @@ abbrev pub HaveSegments : List ℕ → List CommandView → Type 0
 HaveSegments image commands =
     left_with_cmd loader.LC_SEGMENT_64 commands
     ≡ map (command_at image) (all_segments image)
+
+-- .. or all its builds
+abbrev pub HaveBuilds : List ℕ → List CommandView → Type 0
+HaveBuilds image commands =
+    left_with_cmd loader.LC_BUILD_VERSION commands
+    ≡ map (command_at image) (with_cmd image loader.LC_BUILD_VERSION (commands_of image))
+
+-- .. or all commands that name a library
+abbrev pub HaveLibraries : List ℕ → List CommandView → Type 0
+HaveLibraries image commands =
+    libraries_left commands ≡ map (command_at image) (libraries image (commands_of image))
 
 -- the segments among the commands that remain lie inside the image
 abbrev pub HoldSegments : List ℕ → List CommandView → Type 0

@@ -72,7 +72,7 @@ impl<'a> Image<'a> {
     {
         Builds {
             image: self.bytes(),
-            commands: self.commands(),
+            commands: self.commands_with_builds(),
         }
     }
 }

@@ -14,7 +14,7 @@ ghost use Rattle.macho_image.specs.Command.{command_of, command_at, commands_lef
 ghost use Rattle.macho_image.specs.Header.{IsKind};
 ghost use Rattle.macho_image.specs.Opened.{IsOpened};
 ghost use Rattle.macho_image.specs.Table.{HaveTables};
-ghost use Rattle.macho_image.specs.Views.{HaveSegments};
+ghost use Rattle.macho_image.specs.Views.{HaveBuilds, HaveLibraries, HaveSegments};
 ghost use Rattle.macho_image.specs.Walk.{CanWalk, HasLandmarks};
 
 use crate::command::{Command, Commands};
@@ -182,6 +182,23 @@ impl<'a> Image<'a> {
         ensures opened { IsOpened self.now }
     {
         self.commands_in(self.landmarks.segments)
+    }
+
+    // The commands from the first build to the last. Searches for builds are limited to these.
+    pub(crate) fn commands_with_builds(&self) -> Commands<'a>
+        ensures builds { HaveBuilds self.now result }
+        ensures opened { IsOpened self.now }
+    {
+        self.commands_in(self.landmarks.builds)
+    }
+
+    // The commands from the first that names a library to the last. Searches for libraries are limited to
+    // these.
+    pub(crate) fn commands_with_libraries(&self) -> Commands<'a>
+        ensures libraries { HaveLibraries self.now result }
+        ensures opened { IsOpened self.now }
+    {
+        self.commands_in(self.landmarks.libraries)
     }
 
     // The commands of a range, which follow one another in the image.

@@ -10,7 +10,7 @@ ghost use Rattle.macho_image.specs.Walk.{AreLandmarks, IsAt, IsRange, Repeats};
 use crate::command::{Command, command_from, word_at};
 use crate::unique::UniquePlaces;
 use macho_fields::header::loader::mach_header_64::NCMDS;
-use macho_fields::header::loader::{LC_SEGMENT_64, MACH_HEADER_64_SIZE};
+use macho_fields::header::loader::{LC_BUILD_VERSION, LC_SEGMENT_64, MACH_HEADER_64_SIZE};
 use macho_fields::{Bytes, Structure, structure_of};
 
 // The commands from the first that is noted to the last.
@@ -53,12 +53,14 @@ impl CommandRange {
     }
 }
 
-/// Where an image has the commands that it has at most once, its segments, and the commands that
-/// name a table. With them an image is opened again without another scan.
+/// Where an image has the commands that it has at most once, its segments, builds and libraries, and the
+/// commands that name a table. With them an image is opened again without another scan.
 #[derive(Clone, Copy)]
 pub struct Landmarks {
     pub(crate) unique: UniquePlaces,
     pub(crate) segments: CommandRange,
+    pub(crate) builds: CommandRange,
+    pub(crate) libraries: CommandRange,
     pub(crate) tables: CommandRange,
 }
 
@@ -70,6 +72,8 @@ impl Landmarks {
         Landmarks {
             unique: UniquePlaces::new(),
             segments: CommandRange::new(),
+            builds: CommandRange::new(),
+            libraries: CommandRange::new(),
             tables: CommandRange::new(),
         }
     }
@@ -96,6 +100,8 @@ impl Landmarks {
     pub(crate) fn note(&mut self, command: Command, structure: Structure, index: u32) -> bool
         requires listed { structure_of command.cmd ≡ Some structure }
         requires segments { self.old.segments.before + self.old.segments.count ≤ index }
+        requires builds { self.old.builds.before + self.old.builds.count ≤ index }
+        requires libraries { self.old.libraries.before + self.old.libraries.count ≤ index }
         requires tables { self.old.tables.before + self.old.tables.count ≤ index }
         requires fits { index + 1 < 2 ^ 32 }
         ensures landmarks { (image : List ℕ) → IsAt image index command.entry.place
@@ -110,7 +116,13 @@ impl Landmarks {
             self.segments.note(command.place, index);
             return false;
         }
-        if !structure.tables().is_empty() {
+        if command.cmd == LC_BUILD_VERSION {
+            self.builds.note(command.place, index);
+            return false;
+        }
+        if let Structure::DylibCommand = structure {
+            self.libraries.note(command.place, index);
+        } else if !structure.tables().is_empty() {
             self.tables.note(command.place, index);
         }
         self.unique.note(command)

@@ -74,7 +74,7 @@ impl<'a> Image<'a> {
     {
         Dylibs {
             image: self.bytes(),
-            commands: self.commands(),
+            commands: self.commands_with_libraries(),
         }
     }
 

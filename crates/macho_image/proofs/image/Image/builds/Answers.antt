@@ -8,10 +8,10 @@ use Rattle.macho_image.proofs.image.Image.builds.Goals as goal
 
 pub invariant_of-result : goal.invariant_of-result
 invariant_of-result c =
-    subst (λ image. HoldBuilds image c.commands.result) (sym c.bytes.ensures.bytes)
-    (all_inside c.args.self.now c.commands.result loader.LC_BUILD_VERSION BuildVersionCommand refl c.commands.ensures.opened c.commands.ensures.commands)
+    subst (λ image. HoldBuilds image c.commands_with_builds.result) (sym c.bytes.ensures.bytes)
+    (all_inside c.args.self.now c.commands_with_builds.result loader.LC_BUILD_VERSION BuildVersionCommand refl c.commands_with_builds.ensures.opened c.commands_with_builds.ensures.builds)
 
 pub returns : goal.returns
 returns c =
-    ap (λ image. builds_left image c.commands.result) c.bytes.ensures.bytes
-    ∙ all_seen (build_at c.args.self.now) c.args.self.now c.commands.result loader.LC_BUILD_VERSION c.commands.ensures.commands
+    ap (λ image. builds_left image c.commands_with_builds.result) c.bytes.ensures.bytes
+    ∙ all_seen (build_at c.args.self.now) c.args.self.now c.commands_with_builds.result loader.LC_BUILD_VERSION c.commands_with_builds.ensures.builds

@@ -6,10 +6,10 @@ use Rattle.macho_image.proofs.image.Image.dylibs.Goals as goal
 
 pub invariant_of-result : goal.invariant_of-result
 invariant_of-result c =
-    subst (λ image. HoldLibraries image c.commands.result) (sym c.bytes.ensures.bytes)
-    (all_hold c.args.self.now c.commands.result c.commands.ensures.opened c.commands.ensures.commands)
+    subst (λ image. HoldLibraries image c.commands_with_libraries.result) (sym c.bytes.ensures.bytes)
+    (all_hold c.args.self.now c.commands_with_libraries.result c.commands_with_libraries.ensures.opened c.commands_with_libraries.ensures.libraries)
 
 pub returns : goal.returns
 returns c =
-    ap (λ image. dylibs_left image c.commands.result) c.bytes.ensures.bytes
-    ∙ libraries_seen c.args.self.now c.commands.result c.commands.ensures.commands
+    ap (λ image. dylibs_left image c.commands_with_libraries.result) c.bytes.ensures.bytes
+    ∙ libraries_seen c.args.self.now c.commands_with_libraries.result c.commands_with_libraries.ensures.libraries

@@ -30,6 +30,12 @@ note-requires-clause-listed c = sym c.structure_of.ensures ∙ c.in-Some.is
 pub note-requires-clause-segments : goal.note-requires-clause-segments
 note-requires-clause-segments c = c.loop-index.invariant.noted.segments.most
 
+pub note-requires-clause-builds : goal.note-requires-clause-builds
+note-requires-clause-builds c = c.loop-index.invariant.noted.builds.most
+
+pub note-requires-clause-libraries : goal.note-requires-clause-libraries
+note-requires-clause-libraries c = c.loop-index.invariant.noted.libraries.most
+
 pub note-requires-clause-tables : goal.note-requires-clause-tables
 note-requires-clause-tables c = c.loop-index.invariant.noted.tables.most
 
