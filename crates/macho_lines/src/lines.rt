@@ -242,18 +242,21 @@ pub(crate) fn write_entry<W: Output>(
 }
 
 /// Writes the line of a code directory: the word of its hash type, and its cdhash, which is the first
-/// 20 bytes of the hash of the directory (`cs_blobs.h`: `CS_CDHASH_LEN`).
+/// 20 bytes of the hash of the directory (`cs_blobs.h`: `CS_CDHASH_LEN`). The line holds it.
 pub fn write_cdhash<W: Output>(
     hash_type: &str,
     cdhash: &[u8; 20],
+    line: &mut Line,
     writer: &mut W,
 ) -> Result<(), WriteFault>
-    ensures { PutsText W.Output writer.old writer.new result (cdhash_line hash_type.now cdhash.now) }
+    ensures { HoldsText W.Output writer.old writer.new result line.new
+        (line.old ++ cdhash_line hash_type.now cdhash.now) }
 {
-    let mut line = Line::new();
+    line.begin(writer)?;
     line.text(b"  cdhash ");
     line.word(hash_type.as_bytes(), writer)?;
     line.text(b" ");
     line.hex_bytes(cdhash, false);
-    line.write(writer)
+    line.text(b"\n");
+    Ok(())
 }

@@ -1,17 +1,17 @@
 //! Who decides whether a file is accepted, and what the report says of its images beside their layout.
 
-ghost use Rattle.std.specs.Prelude.{◌≡◌, ℕ, List, [], IfErr, IfOk, None, OnOk};
+ghost use Rattle.std.specs.Prelude.{◌≡◌, ℕ, List, [], ◌++◌, IfErr, IfOk, None, OnOk};
 ghost use Rattle.macho_fields.specs.First.{IsUnbroken, IsFirstBroken};
 ghost use Rattle.macho_fields.specs.Layers.{NothingBreaks};
 ghost use Rattle.macho_fields.specs.Rules.{BreaksImage};
 ghost use Rattle.macho_fields.specs.declared.rule.Break.{Break};
-ghost use Rattle.macho_text.specs.Writer.{PutsText};
+ghost use Rattle.macho_text.specs.Writer.{HoldsText};
 ghost use Rattle.macho_report.specs.Judge.{IsRefusalBy};
 
 use macho_fields::LayoutRules;
 use macho_image::Image;
 use macho_rules::{Refusal, Verified, verify};
-use macho_text::{Output, WriteFault};
+use macho_text::{Line, Output, WriteFault};
 use std::alloc::Global;
 
 /// Decides whether a file is accepted, and writes what the report says of an image after its layout.
@@ -31,10 +31,16 @@ pub trait Judge {
         ensures refused { IfErr result (IsRefusalBy (refuses self.now) file.now) };
 
     /// Writes what the report says of an image, which breaks no rule of the layout, after the lines of its
-    /// layout.
-    fn write_more<W: Output>(&self, image: &Image, writer: &mut W) -> Result<(), WriteFault>
+    /// layout. The line can hold it.
+    fn write_more<W: Output>(
+        &self,
+        image: &Image,
+        line: &mut Line,
+        writer: &mut W,
+    ) -> Result<(), WriteFault>
         requires { NothingBreaks (BreaksImage image.now None) }
-        ensures { PutsText W.Output writer.old writer.new result (says self.now image.now) };
+        ensures { HoldsText W.Output writer.old writer.new result line.new
+            (line.old ++ says self.now image.now) };
 }
 
 /// Accepts the files that break no rule of the layout, as [`verify`] decides.
@@ -47,7 +53,7 @@ impl Judge for LayoutRules {
         verify(alloc, file)
     }
 
-    fn write_more<W: Output>(&self, _: &Image, _: &mut W) -> Result<(), WriteFault> {
+    fn write_more<W: Output>(&self, _: &Image, _: &mut Line, _: &mut W) -> Result<(), WriteFault> {
         Ok(())
     }
 }

@@ -1,6 +1,6 @@
 //! The layout of an accepted file.
 
-ghost use Rattle.std.specs.Prelude.{◌≡◌, ◌<◌, ◌++◌, length, map, slice_get, IsErr, IsSomeAnd, IsTrue, None};
+ghost use Rattle.std.specs.Prelude.{◌<◌, ◌++◌, length, map, slice_get, IsErr, IsSomeAnd, IsTrue, None};
 ghost use Rattle.std.specs.List.{enumerate_from};
 ghost use Rattle.macho_fat.specs.Slices.{slice_of};
 ghost use Rattle.macho_fields.specs.Layers.{NothingBreaks};
@@ -99,6 +99,5 @@ fn write_image_slice<J: Judge, W: Output>(
         writer,
     )?;
     write_image(image, line, writer)?;
-    line.hand_on(writer)?;
-    judge.write_more(image, writer)
+    judge.write_more(image, line, writer)
 }

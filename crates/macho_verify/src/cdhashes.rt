@@ -1,24 +1,29 @@
 //! The lines of code directories.
 
-ghost use Rattle.std.specs.Prelude.{◌≡◌, None};
+ghost use Rattle.std.specs.Prelude.{◌≡◌, ◌++◌, None};
 ghost use Rattle.macho_fields.specs.Layers.{NothingBreaks};
 ghost use Rattle.macho_fields.specs.Rules.{BreaksImage};
-ghost use Rattle.macho_text.specs.Writer.{PutsText};
+ghost use Rattle.macho_text.specs.Writer.{HoldsText};
 ghost use Rattle.macho_verify.specs.Cdhashes.{cdhashes_text, type_word};
 
 use macho_image::Image;
 use macho_lines::write_cdhash;
 use macho_seals::{Cdhashes, Digest};
-use macho_text::{Output, WriteFault};
+use macho_text::{Line, Output, WriteFault};
 
 /// Writes a line for each code directory of an image that breaks no rule of the layout, in the order of the
-/// index of its signature.
-pub fn write_cdhashes<W: Output>(image: &Image, writer: &mut W) -> Result<(), WriteFault>
+/// index of its signature. The line holds the last ones.
+pub fn write_cdhashes<W: Output>(
+    image: &Image,
+    line: &mut Line,
+    writer: &mut W,
+) -> Result<(), WriteFault>
     requires { NothingBreaks (BreaksImage image.now None) }
-    ensures { PutsText W.Output writer.old writer.new result (cdhashes_text image.now) }
+    ensures { HoldsText W.Output writer.old writer.new result line.new
+        (line.old ++ cdhashes_text image.now) }
 {
     for digest in Cdhashes::of(image) {
-        write_cdhash(type_word(&digest), &digest.cdhash(), writer)?;
+        write_cdhash(type_word(&digest), &digest.cdhash(), line, writer)?;
     }
     Ok(())
 }

@@ -9,7 +9,7 @@ use macho_image::Image;
 use macho_profiles::verify_by;
 use macho_report::Judge;
 use macho_rules::{Refusal, Verified};
-use macho_text::{Output, WriteFault};
+use macho_text::{Line, Output, WriteFault};
 use std::alloc::Global;
 
 /// Accepts the files that break no rule of the profiles up to this one, as [`verify_by`] decides. By the
@@ -30,10 +30,15 @@ impl Judge for ProfileRules {
         verify_by(alloc, self.profile, file)
     }
 
-    fn write_more<W: Output>(&self, image: &Image, writer: &mut W) -> Result<(), WriteFault> {
+    fn write_more<W: Output>(
+        &self,
+        image: &Image,
+        line: &mut Line,
+        writer: &mut W,
+    ) -> Result<(), WriteFault> {
         match self.profile {
             Profile::Layout | Profile::Strict | Profile::Linked | Profile::Unambiguous => Ok(()),
-            Profile::Sealed => write_cdhashes(image, writer),
+            Profile::Sealed => write_cdhashes(image, line, writer),
         }
     }
 }

@@ -1,5 +1,5 @@
 use Rattle.macho_fields.specs.FileTypes.{file_type_view}
-use Rattle.macho_text.proofs.Holding.{holds_begin, holds_fails, holds_fault, holds_last, holds_next, holds_none}
+use Rattle.macho_text.proofs.Holding.{holds_begin, holds_fails, holds_last, holds_next}
 use Rattle.macho_report.proofs.Slices.{same_arch, word_is}
 use Rattle.macho_report.proofs.layout.write_image_slice.Goals as goal
 
@@ -18,18 +18,10 @@ returns-in_err-write_image g c =
     ) at c.in_ok-write_slice.ensures))
     c.in_err-write_image.ensures
 
-pub returns-in_err-hand_on : goal.returns-in_err-hand_on
-returns-in_err-hand_on g c =
-    holds_last (holds_next (holds_next holds_begin (rw (
-      same_arch _ _ _ c.arch.ensures.cpu_type c.arch.ensures.cpu_subtype,
-      word_is c.args.image.now (file_type_view c.file_type.result) c.file_type.ensures,
-    ) at c.in_ok-write_slice.ensures))
-    c.in_ok-write_image.ensures) (holds_fault _ c.from_residual-in_err-hand_on.ensures.0 c.in_err-hand_on.ensures.text)
-
 pub returns : goal.returns
 returns g c =
     holds_last (holds_next (holds_next holds_begin (rw (
       same_arch _ _ _ c.arch.ensures.cpu_type c.arch.ensures.cpu_subtype,
       word_is c.args.image.now (file_type_view c.file_type.result) c.file_type.ensures,
     ) at c.in_ok-write_slice.ensures))
-    c.in_ok-write_image.ensures) (holds_none c.in_ok-hand_on.ensures.text c.in_ok-hand_on.ensures.none c.write_more.ensures)
+    c.in_ok-write_image.ensures) c.write_more.ensures
