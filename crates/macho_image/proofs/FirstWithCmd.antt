@@ -12,7 +12,6 @@ use Rattle.std.proofs.lemmas.List.Folds.{Any-from_list_any, list_any-from_Any}
 use Rattle.std.proofs.lemmas.List.Sums.{fails_before_first}
 use Rattle.macho_fields.specs.Image.{command_cmd}
 use Rattle.macho_fields.specs.LoadCommands.{structure_of, unique_commands, unique_cmds, unique_index, IsUnique}
-use Rattle.macho_fields.specs.declared.header.loader.TheConstants as loader
 use Rattle.macho_fields.specs.declared.load_command.Structure.{Structure}
 use Rattle.macho_fields.specs.LoadCommands.{LoadCommand}
 use Rattle.macho_fields.specs.declared.load_command.Structure.TheVariants.{SymtabCommand}
@@ -228,10 +227,3 @@ unlisted_is_not_unique cmd none unique = false≢true (sym (none_found (λ comma
 
 pub unlisted_is_not : (known : ℕ) (s : Structure) → structure_of known ≡ Some s → (cmd : ℕ) → structure_of cmd ≡ None → cmd ≢ known
 unlisted_is_not known s listed cmd none same = let missing : Some s ≡ None = sym listed ∙ sym (ap structure_of same) ∙ none in absurd (cc)
-
--- a command of one of these kinds may come any number of times
-pub segment_is_not_unique : (cmd : ℕ) → cmd ≡ loader.LC_SEGMENT_64 → ¬ IsUnique cmd
-segment_is_not_unique cmd same unique = false≢true (subst IsUnique same unique)
-
-pub build_is_not_unique : (cmd : ℕ) → cmd ≡ loader.LC_BUILD_VERSION → ¬ IsUnique cmd
-build_is_not_unique cmd same unique = false≢true (subst IsUnique same unique)

@@ -14,7 +14,7 @@ use Rattle.macho_fields.proofs.Parts.{with_cmd_is, with_cmd_among}
 use Rattle.macho_image.specs.Opened.{IsOpened}
 use Rattle.macho_image.specs.Command.{CommandView, command_at}
 use Rattle.macho_image.specs.Segment.{segment_of, sections_among, SegmentView, SectionView, segment_at, section_at, sections_with, sections_of}
-use Rattle.macho_image.specs.Views.{HaveSegments, HoldsSegment, HoldSegments, HoldsSection}
+use Rattle.macho_image.specs.Views.{HaveAll, HoldsSegment, HoldSegments, HoldsSection}
 use Rattle.macho_image.specs.Symbol.{items_from}
 use Rattle.macho_image.proofs.Opened.{opened_keeps}
 use Rattle.macho_image.proofs.OpenedWalk.{opened_commands}
@@ -36,7 +36,7 @@ no_segment image command other = elim (cases_Bool (command.cmd == loader.LC_SEGM
 ]
 
 -- the segments of an opened image lie inside it
-pub all_segments_hold : (image : List ℕ) (all : List CommandView) → IsOpened image → HaveSegments image all → HoldSegments image all
+pub all_segments_hold : (image : List ℕ) (all : List CommandView) → IsOpened image → HaveAll loader.LC_SEGMENT_64 image all → HoldSegments image all
 all_segments_hold image all opened have =
     let segments = segments_of image (commands_of image) in
     subst (All (λ c. HoldsSegment image c.place)) (sym have) (All-map (λ c. HoldsSegment image c.place) (command_at image) segments

@@ -13,7 +13,7 @@ use Rattle.macho_fields.proofs.Opened.{structure_inside, command_inside}
 use Rattle.macho_fields.proofs.Parts.{with_cmd_is, with_cmd_among}
 use Rattle.macho_image.specs.Opened.{IsOpened}
 use Rattle.macho_image.specs.Command.{CommandView, command_of, command_at, first_with_cmd, left_with_cmd}
-use Rattle.macho_image.specs.Views.{LieInside}
+use Rattle.macho_image.specs.Views.{HaveAll, LieInside}
 use Rattle.macho_image.specs.declared.command.Command.{Command}
 use Rattle.macho_image.proofs.Opened.{opened_keeps}
 use Rattle.macho_image.proofs.OpenedWalk.{opened_commands}
@@ -38,14 +38,10 @@ held image cmd command s listed opened has =
 abbrev pub AreAll : List ℕ → List CommandView → Type 0
 AreAll image all = all ≡ map (command_at image) (commands_of image)
 
--- those of one kind among the commands that a view begins with are the image's
-abbrev pub AreKept : List ℕ → List CommandView → ℕ → Type 0
-AreKept image all cmd = left_with_cmd cmd all ≡ map (command_at image) (with_cmd image cmd (commands_of image))
-
-pub all_kept : (image : List ℕ) (all : List CommandView) (cmd : ℕ) → AreAll image all → AreKept image all cmd
+pub all_kept : (image : List ℕ) (all : List CommandView) (cmd : ℕ) → AreAll image all → HaveAll cmd image all
 all_kept image all cmd is = ap (left_with_cmd cmd) is ∙ left_with_cmd-map image cmd (commands_of image)
 
-pub all_inside : (image : List ℕ) (all : List CommandView) (cmd : ℕ) (s : Structure) → structure_of cmd ≡ Some s → IsOpened image → AreKept image all cmd
+pub all_inside : (image : List ℕ) (all : List CommandView) (cmd : ℕ) (s : Structure) → structure_of cmd ≡ Some s → IsOpened image → HaveAll cmd image all
     → LieInside image (structure_size s) (left_with_cmd cmd all)
 all_inside image all cmd s listed opened is =
     let places = with_cmd image cmd (commands_of image) in
@@ -53,7 +49,7 @@ all_inside image all cmd s listed opened is =
     (λ k d less. held image cmd _ s listed opened (All-contains_itself places k d less)))
 
 -- what g reads of each of them
-pub all_seen : {B : Type 0} (g : ℕ → B) (image : List ℕ) (all : List CommandView) (cmd : ℕ) → AreKept image all cmd
+pub all_seen : {B : Type 0} (g : ℕ → B) (image : List ℕ) (all : List CommandView) (cmd : ℕ) → HaveAll cmd image all
     → map (λ c. g c.place) (left_with_cmd cmd all) ≡ map g (with_cmd image cmd (commands_of image))
 all_seen g image all cmd is = ap (map (λ c. g c.place)) is ∙ map-places g image (with_cmd image cmd (commands_of image))
 

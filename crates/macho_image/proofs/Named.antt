@@ -12,8 +12,8 @@ use Rattle.macho_fields.proofs.Options.{of_some}
 use Rattle.macho_fields.proofs.Parts.{with_cmd_is, with_cmd_among}
 use Rattle.macho_image.specs.Command.{CommandView, command_at, first_with_cmd}
 use Rattle.macho_image.specs.Opened.{IsOpened}
-use Rattle.macho_image.specs.Views.{HoldsName, HoldNames}
-use Rattle.macho_image.proofs.Kept.{AreKept, held, got_first}
+use Rattle.macho_image.specs.Views.{HaveAll, HoldsName, HoldNames}
+use Rattle.macho_image.proofs.Kept.{held, got_first}
 use Rattle.macho_image.proofs.Opened.{opened_keeps}
 use Rattle.macho_image.proofs.OpenedWalk.{opened_commands}
 
@@ -37,7 +37,7 @@ held_name image cmd command s listed named opened has =
           (with_cmd_among image (commands_of image) cmd command has);
     }
 
-pub all_names_held : (image : List ℕ) (all : List CommandView) (cmd : ℕ) (s : Structure) → structure_of cmd ≡ Some s → has_name s ≡ true → IsOpened image → AreKept image all cmd
+pub all_names_held : (image : List ℕ) (all : List CommandView) (cmd : ℕ) (s : Structure) → structure_of cmd ≡ Some s → has_name s ≡ true → IsOpened image → HaveAll cmd image all
     → HoldNames image cmd all
 all_names_held image all cmd s listed named opened is =
     let places = with_cmd image cmd (commands_of image) in

@@ -5,14 +5,15 @@ use Rattle.std.proofs.lemmas.Bool.{cases_lt, ne_eqb}
 use Rattle.std.proofs.lemmas.List.{append-nil}
 use Rattle.std.proofs.lemmas.List.Elements.{Contains-append_right, filter-append}
 use Rattle.macho_fields.specs.Image.{command_count, command_cmd, command_size, commands_of, IsGood, Follow, places_from}
-use Rattle.macho_fields.specs.LoadCommands.{is_dylib_command, structure_of}
+use Rattle.macho_fields.specs.LoadCommands.{IsUnique, is_dylib_command, structure_of}
 use Rattle.macho_fields.specs.declared.header.loader.TheConstants as loader
 use Rattle.macho_fields.specs.declared.load_command.Structure.{Structure}
 use Rattle.macho_fields.specs.declared.load_command.Structure.TheVariants as structure
 use Rattle.macho_fields.proofs.Lists.{none_in_nil, first_or_later}
 use Rattle.macho_fields.proofs.Parts.{command_good}
+use Rattle.macho_image.specs.Library.{is_library}
 use Rattle.macho_image.specs.Opened.{IsOpened}
-use Rattle.macho_image.specs.Walk.{AreFirst, AreLandmarks, IsAt, IsRange, Passes, first_commands, has_tables, is_build, is_library, is_segment, names_table}
+use Rattle.macho_image.specs.Walk.{AreFirst, AreLandmarks, IsAt, IsRange, Passes, first_commands, has_cmd, has_tables, names_table}
 use Rattle.macho_image.specs.declared.landmarks.CommandRange.{CommandRange}
 use Rattle.macho_image.specs.declared.landmarks.Landmarks.{Landmarks}
 use Rattle.macho_image.proofs.FirstWithCmd.{first_kept, unlisted_is_not_unique, unlisted_is_not}
@@ -129,15 +130,25 @@ module _ (image : List ℕ) (walked place : ℕ) (at : IsAt image walked place) 
     pub listed_by : (test : Structure → Bool) (o : Option Structure) → structure_of cmd ≡ o → option_map_or test (structure_of (command_cmd image place)) false ≡ option_map_or test o false
     listed_by test o listed = ap (λ found. option_map_or test found false) (sym (ap structure_of is) ∙ listed)
 
+    -- a command that may come again, and that names neither a library nor a table, is in no other range
+    pub others_kept : (landmarks : Landmarks) (segments builds : CommandRange) → ¬ IsUnique cmd → is_library image place ≡ false → names_table image place ≡ false
+        → IsRange image (has_cmd loader.LC_SEGMENT_64 image) (walked + 1) segments → IsRange image (has_cmd loader.LC_BUILD_VERSION image) (walked + 1) builds
+        → AreLandmarks image walked landmarks → AreLandmarks image (walked + 1) (record landmarks { segments = segments; builds = builds })
+    others_kept landmarks segments builds other no_library no_table are_segments are_builds are = record {
+      first = subst (λ ps. AreFirst image ps landmarks.unique) (sym passed_next) (first_kept image (first_commands image walked) landmarks.unique are.first cmd place other is passed_header);
+      segments = are_segments;
+      builds = are_builds;
+      libraries = range_kept (is_library image) landmarks.libraries are.libraries no_library;
+      tables = range_kept (names_table image) landmarks.tables are.tables no_table;
+    }
+
     -- a landmark is a listed command
     pub landmarks_kept : (landmarks : Landmarks) → structure_of cmd ≡ None → AreLandmarks image walked landmarks → AreLandmarks image (walked + 1) landmarks
-    landmarks_kept landmarks none are = record {
-      first = subst (λ ps. AreFirst image ps landmarks.unique) (sym passed_next) (first_kept image (first_commands image walked) landmarks.unique are.first cmd place (unlisted_is_not_unique cmd none) is passed_header);
-      segments = range_kept (is_segment image) landmarks.segments are.segments (other_cmd loader.LC_SEGMENT_64 (unlisted_is_not loader.LC_SEGMENT_64 structure.SegmentCommand64 refl cmd none));
-      builds = range_kept (is_build image) landmarks.builds are.builds (other_cmd loader.LC_BUILD_VERSION (unlisted_is_not loader.LC_BUILD_VERSION structure.BuildVersionCommand refl cmd none));
-      libraries = range_kept (is_library image) landmarks.libraries are.libraries (listed_by is_dylib_command None none);
-      tables = range_kept (names_table image) landmarks.tables are.tables (listed_by has_tables None none);
-    }
+    landmarks_kept landmarks none are =
+        others_kept landmarks landmarks.segments landmarks.builds (unlisted_is_not_unique cmd none) (listed_by is_dylib_command None none) (listed_by has_tables None none)
+        (range_kept (has_cmd loader.LC_SEGMENT_64 image) landmarks.segments are.segments (other_cmd loader.LC_SEGMENT_64 (unlisted_is_not loader.LC_SEGMENT_64 structure.SegmentCommand64 refl cmd none)))
+        (range_kept (has_cmd loader.LC_BUILD_VERSION image) landmarks.builds are.builds (other_cmd loader.LC_BUILD_VERSION (unlisted_is_not loader.LC_BUILD_VERSION structure.BuildVersionCommand refl cmd none)))
+        are
 
 pub no_dylib : (s : Structure) → (s ≡ structure.DylibCommand → ⊥) → is_dylib_command s ≡ false
 no_dylib structure.DylibCommand other = absurd (other refl)

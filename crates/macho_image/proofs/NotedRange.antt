@@ -9,15 +9,14 @@ use Rattle.std.proofs.lemmas.List.Elements.{All-contains_itself, Contains-append
 use Rattle.macho_fields.specs.Image.{command_cmd, command_count, command_size, commands_of, IsGood, places_from}
 use Rattle.macho_fields.specs.LoadCommands.{names_library, structure_of, table_fields}
 use Rattle.macho_fields.specs.Symbol.{table_at, tables_of}
-use Rattle.macho_fields.specs.declared.header.loader.TheConstants as loader
 use Rattle.macho_fields.specs.declared.load_command.Structure.{Structure}
 use Rattle.macho_fields.specs.declared.load_command.TableFields.{TableFields}
 use Rattle.macho_fields.proofs.Parts.{command_good}
 use Rattle.macho_image.specs.Command.{CommandView, command_at, commands_left}
-use Rattle.macho_image.specs.Library.{libraries, libraries_left}
+use Rattle.macho_image.specs.Library.{is_library, libraries, libraries_left}
 use Rattle.macho_image.specs.Opened.{IsOpened}
-use Rattle.macho_image.specs.Walk.{CanWalk, IsRange, Passes, first_commands, has_tables, is_build, is_library, is_segment, names_table}
-use Rattle.macho_image.specs.Views.{HaveBuilds, HaveLibraries, HaveSegments}
+use Rattle.macho_image.specs.Walk.{CanWalk, IsRange, Passes, first_commands, has_cmd, has_tables, names_table}
+use Rattle.macho_image.specs.Views.{HaveAll, HaveLibraries}
 use Rattle.macho_image.specs.Table.{HaveTables}
 use Rattle.macho_image.specs.declared.landmarks.CommandRange.{CommandRange}
 use Rattle.macho_image.proofs.Noted.{passed_and, passed_are, passed_next}
@@ -116,15 +115,10 @@ module _ (image : List ℕ) (opened : IsOpened image) (test : ℕ → Bool) (ran
           let end = are.last (let some : 0 < range.count = omega arith in some) in
           subst (λ o. IfSome o P) (sym (ap (last_or None) (at_end n is end) ∙ last_of (places_from image range.place n) end.place None)) (to end.place end.passes)
 
-pub have_segments : (image : List ℕ) (opened : IsOpened image) (range : CommandRange) → IsRange image (is_segment image) (command_count image) range
-    → HaveSegments image (commands_left image range.place range.count)
-have_segments image opened range are =
-    left_with_cmd-map image loader.LC_SEGMENT_64 (places_from image range.place range.count) ∙ ap (map (command_at image)) (kept image opened (is_segment image) range are)
-
-pub have_builds : (image : List ℕ) (opened : IsOpened image) (range : CommandRange) → IsRange image (is_build image) (command_count image) range
-    → HaveBuilds image (commands_left image range.place range.count)
-have_builds image opened range are =
-    left_with_cmd-map image loader.LC_BUILD_VERSION (places_from image range.place range.count) ∙ ap (map (command_at image)) (kept image opened (is_build image) range are)
+pub have_all : (cmd : ℕ) (image : List ℕ) (opened : IsOpened image) (range : CommandRange) → IsRange image (has_cmd cmd image) (command_count image) range
+    → HaveAll cmd image (commands_left image range.place range.count)
+have_all cmd image opened range are =
+    left_with_cmd-map image cmd (places_from image range.place range.count) ∙ ap (map (command_at image)) (kept image opened (has_cmd cmd image) range are)
 
 libraries_left-map : (image xs : List ℕ) → libraries_left (map (command_at image) xs) ≡ map (command_at image) (libraries image xs)
 libraries_left-map image [] = refl

@@ -1,13 +1,17 @@
 -- The libraries that an image names. (mach-o/loader.h: dylib_command)
-use Rattle.std.specs.Prelude.{ℕ, ◌+◌, List, map, filter}
+use Rattle.std.specs.Prelude.{ℕ, ◌+◌, Bool, List, map, filter}
 use Rattle.macho_fields.specs.Image.{word, command_cmd}
 use Rattle.macho_fields.specs.LoadCommands.{names_library}
 use Rattle.macho_image.specs.Command.{CommandView, command_name}
 use Rattle.macho_image.specs.declared.library.Dylib.{Dylib}
 
--- the commands that name a library, in order
+-- the command names a library
+abbrev pub is_library : List ℕ → ℕ → Bool
+is_library image command = names_library (command_cmd image command)
+
+-- the commands that do, in order
 abbrev pub libraries : List ℕ → List ℕ → List ℕ
-libraries image commands = filter (λ command. names_library (command_cmd image command)) commands
+libraries image commands = filter (is_library image) commands
 
 -- a library: the place and the cmd of its command, its name and two versions
 pub record DylibView : Type 0 where

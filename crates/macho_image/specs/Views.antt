@@ -5,7 +5,7 @@ use Rattle.macho_fields.specs.Command.{name_start}
 use Rattle.macho_fields.specs.Field.{HasZero}
 use Rattle.macho_fields.specs.Image.{commands_of, with_cmd}
 use Rattle.macho_fields.specs.LoadCommands.{structure_size}
-use Rattle.macho_fields.specs.Segment.{nsects, all_segments}
+use Rattle.macho_fields.specs.Segment.{nsects}
 use Rattle.macho_fields.specs.declared.header.loader.TheConstants as loader
 use Rattle.macho_fields.specs.declared.load_command.Structure.TheVariants.{DylibCommand}
 use Rattle.macho_fields.specs.declared.load_command.Structure.TheVariants.{BuildVersionCommand}
@@ -18,19 +18,12 @@ HoldsSegment image segment =
     segment + loader.SEGMENT_COMMAND_64_SIZE + loader.SECTION_64_SIZE * nsects image segment
     ≤ length image
 
--- the commands of a walk have all segments of the image
-abbrev pub HaveSegments : List ℕ → List CommandView → Type 0
-HaveSegments image commands =
-    left_with_cmd loader.LC_SEGMENT_64 commands
-    ≡ map (command_at image) (all_segments image)
+-- the commands of a walk have all those of the image with the cmd
+abbrev pub HaveAll : ℕ → List ℕ → List CommandView → Type 0
+HaveAll cmd image commands =
+    left_with_cmd cmd commands ≡ map (command_at image) (with_cmd image cmd (commands_of image))
 
--- .. or all its builds
-abbrev pub HaveBuilds : List ℕ → List CommandView → Type 0
-HaveBuilds image commands =
-    left_with_cmd loader.LC_BUILD_VERSION commands
-    ≡ map (command_at image) (with_cmd image loader.LC_BUILD_VERSION (commands_of image))
-
--- .. or all commands that name a library
+-- .. or all that name a library
 abbrev pub HaveLibraries : List ℕ → List CommandView → Type 0
 HaveLibraries image commands =
     libraries_left commands ≡ map (command_at image) (libraries image (commands_of image))

@@ -6,12 +6,13 @@ use Rattle.macho_fields.specs.Bytes.{bytes_of}
 use Rattle.macho_fields.specs.Command.{IsShort, HasBadName, RepeatsEarlier}
 use Rattle.macho_fields.specs.Image.{command_cmd, command_size, command_count, commands_end, IsGood, IsChain, places_from}
 use Rattle.macho_fields.specs.FirstPlace.{IsFirstOf}
-use Rattle.macho_fields.specs.LoadCommands.{structure_of, table_fields, names_library, unique_cmds}
+use Rattle.macho_fields.specs.LoadCommands.{structure_of, table_fields, unique_cmds}
 use Rattle.macho_fields.specs.Rules.{BreaksImage}
 use Rattle.macho_fields.specs.declared.header.loader.TheConstants as loader
 use Rattle.macho_fields.specs.declared.load_command.Structure.{Structure}
 use Rattle.macho_fields.specs.declared.rule.Rule.{Rule}
 use Rattle.macho_image.specs.Command.{CommandView, first_with_cmd}
+use Rattle.macho_image.specs.Library.{is_library}
 use Rattle.macho_image.specs.Opened.{IsOpened}
 use Rattle.macho_image.specs.declared.landmarks.CommandRange.{CommandRange}
 use Rattle.macho_image.specs.declared.landmarks.Landmarks.{Landmarks}
@@ -50,15 +51,9 @@ first_commands image walked = places_from image loader.MACH_HEADER_64_SIZE walke
 abbrev pub Repeats : List ℕ → ℕ → ℕ → Type 0
 Repeats image walked command = RepeatsEarlier image (first_commands image walked) command
 
--- tests of a command: it is a segment; it is a build; it names a library; it names a table
-abbrev pub is_segment : List ℕ → ℕ → Bool
-is_segment image command = command_cmd image command == loader.LC_SEGMENT_64
-
-abbrev pub is_build : List ℕ → ℕ → Bool
-is_build image command = command_cmd image command == loader.LC_BUILD_VERSION
-
-abbrev pub is_library : List ℕ → ℕ → Bool
-is_library image command = names_library (command_cmd image command)
+-- tests of a command: it has the cmd; it names a library (specs/Library); it names a table
+abbrev pub has_cmd : ℕ → List ℕ → ℕ → Bool
+has_cmd cmd image command = command_cmd image command == cmd
 
 abbrev pub has_tables : Structure → Bool
 has_tables structure = not (length (table_fields structure) == 0)
@@ -87,8 +82,8 @@ pub record IsRange (image : List ℕ) (test : ℕ → Bool) (walked : ℕ) (rang
 -- where the commands that views look for are among the first commands
 pub record AreLandmarks (image : List ℕ) (walked : ℕ) (landmarks : Landmarks) : Type 0 where
   pub first : AreFirst image (first_commands image walked) landmarks.unique
-  pub segments : IsRange image (is_segment image) walked landmarks.segments
-  pub builds : IsRange image (is_build image) walked landmarks.builds
+  pub segments : IsRange image (has_cmd loader.LC_SEGMENT_64 image) walked landmarks.segments
+  pub builds : IsRange image (has_cmd loader.LC_BUILD_VERSION image) walked landmarks.builds
   pub libraries : IsRange image (is_library image) walked landmarks.libraries
   pub tables : IsRange image (names_table image) walked landmarks.tables
 

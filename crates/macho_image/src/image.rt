@@ -9,12 +9,13 @@ ghost use Rattle.macho_fields.specs.Layers.{Continues, StopsAt};
 ghost use Rattle.macho_fields.specs.LoadCommands.{structure_of, structure_size, IsUnique};
 ghost use Rattle.macho_fields.specs.Rules.{BreaksImage};
 ghost use Rattle.macho_fields.specs.Universal.{masked};
+ghost use Rattle.macho_fields.specs.declared.header.loader.TheConstants.{LC_BUILD_VERSION, LC_SEGMENT_64};
 ghost use Rattle.macho_fields.specs.declared.rule.Rule.{Rule};
 ghost use Rattle.macho_image.specs.Command.{command_of, command_at, commands_left, first_with_cmd};
 ghost use Rattle.macho_image.specs.Header.{IsKind};
 ghost use Rattle.macho_image.specs.Opened.{IsOpened};
 ghost use Rattle.macho_image.specs.Table.{HaveTables};
-ghost use Rattle.macho_image.specs.Views.{HaveBuilds, HaveLibraries, HaveSegments};
+ghost use Rattle.macho_image.specs.Views.{HaveAll, HaveLibraries};
 ghost use Rattle.macho_image.specs.Walk.{CanWalk, HasLandmarks};
 
 use crate::command::{Command, Commands};
@@ -178,7 +179,7 @@ impl<'a> Image<'a> {
 
     // The commands from the first segment to the last. Searches for segments are limited to these.
     pub(crate) fn commands_with_segments(&self) -> Commands<'a>
-        ensures segments { HaveSegments self.now result }
+        ensures segments { HaveAll LC_SEGMENT_64 self.now result }
         ensures opened { IsOpened self.now }
     {
         self.commands_in(self.landmarks.segments)
@@ -186,7 +187,7 @@ impl<'a> Image<'a> {
 
     // The commands from the first build to the last. Searches for builds are limited to these.
     pub(crate) fn commands_with_builds(&self) -> Commands<'a>
-        ensures builds { HaveBuilds self.now result }
+        ensures builds { HaveAll LC_BUILD_VERSION self.now result }
         ensures opened { IsOpened self.now }
     {
         self.commands_in(self.landmarks.builds)

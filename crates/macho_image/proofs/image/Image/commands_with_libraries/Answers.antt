@@ -1,4 +1,4 @@
-use Rattle.macho_image.specs.Walk.{is_library}
+use Rattle.macho_image.specs.Library.{is_library}
 use Rattle.macho_image.specs.Views.{HaveLibraries}
 use Rattle.macho_image.proofs.NotedRange.{as_seen, can_walk_seen, can_walk_range, have_libraries}
 use Rattle.macho_image.proofs.image.Image.commands_with_libraries.Goals as goal

@@ -1,10 +1,11 @@
-use Rattle.macho_image.specs.Walk.{is_segment}
-use Rattle.macho_image.specs.Views.{HaveSegments}
-use Rattle.macho_image.proofs.NotedRange.{as_seen, can_walk_seen, can_walk_range, have_segments}
+use Rattle.macho_fields.specs.declared.header.loader.TheConstants as loader
+use Rattle.macho_image.specs.Walk.{has_cmd}
+use Rattle.macho_image.specs.Views.{HaveAll}
+use Rattle.macho_image.proofs.NotedRange.{as_seen, can_walk_seen, can_walk_range, have_all}
 use Rattle.macho_image.proofs.image.Image.commands_with_segments.Goals as goal
 
 pub commands_in-requires : goal.commands_in-requires
-commands_in-requires c = can_walk_seen c.self.view_is (can_walk_range _ c.self.invariant.opened (is_segment _) c.self.inside.landmarks.segments c.self.invariant.all.segments)
+commands_in-requires c = can_walk_seen c.self.view_is (can_walk_range _ c.self.invariant.opened (has_cmd loader.LC_SEGMENT_64 _) c.self.inside.landmarks.segments c.self.invariant.all.segments)
 
 pub returns-clause-segments : goal.returns-clause-segments
-returns-clause-segments c = as_seen HaveSegments c.self.inside.landmarks.segments c.self.view_is c.commands_in.ensures.commands (have_segments _ c.self.invariant.opened c.self.inside.landmarks.segments c.self.invariant.all.segments)
+returns-clause-segments c = as_seen (HaveAll loader.LC_SEGMENT_64) c.self.inside.landmarks.segments c.self.view_is c.commands_in.ensures.commands (have_all loader.LC_SEGMENT_64 _ c.self.invariant.opened c.self.inside.landmarks.segments c.self.invariant.all.segments)

@@ -1,11 +1,12 @@
 use Rattle.std.proofs.Common.{◌≡◌, ◌+◌, ℕ, List, not, ap, sym, subst, length, ◌==◌, ◌∙◌, Some, Bool, false}
 use Rattle.std.specs.Option.{option_map_or}
+use Rattle.std.proofs.lemmas.Bool.{false≢true}
 use Rattle.macho_fields.specs.Image.{command_cmd}
-use Rattle.macho_fields.specs.LoadCommands.{is_dylib_command, names_library, structure_of, table_fields}
+use Rattle.macho_fields.specs.LoadCommands.{IsUnique, is_dylib_command, names_library, structure_of, table_fields}
 use Rattle.macho_fields.specs.declared.header.loader.TheConstants as loader
-use Rattle.macho_image.specs.Walk.{AreFirst, AreLandmarks, IsAt, IsRange, first_commands, has_tables, is_build, is_library, is_segment, names_table}
-use Rattle.macho_image.proofs.FirstWithCmd.{build_is_not_unique, first_kept, segment_is_not_unique}
-use Rattle.macho_image.proofs.Noted.{at_cmd, listed_by, no_dylib, other_cmd, passed_header, passed_next, range_kept, range_noted}
+use Rattle.macho_image.specs.Library.{is_library}
+use Rattle.macho_image.specs.Walk.{AreFirst, AreLandmarks, IsAt, IsRange, first_commands, has_cmd, has_tables, names_table}
+use Rattle.macho_image.proofs.Noted.{at_cmd, listed_by, no_dylib, other_cmd, others_kept, passed_header, passed_next, range_kept, range_noted}
 use Rattle.macho_fields.specs.declared.load_command.Structure.{Structure}
 use Rattle.macho_fields.specs.declared.load_command.Structure.TheVariants as structure
 use Rattle.macho_image.specs.declared.landmarks.Landmarks.{Landmarks}
@@ -19,18 +20,13 @@ returns-then-command-eq-LC_SEGMENT_64-clause-landmarks c image at is are =
     let index = c.args.index in
     let place = c.args.command.place in
     let cmd = c.args.command.cmd in
-    let same = c.if-command-eq-LC_SEGMENT_64.true in record {
-      first = subst (λ ps. AreFirst image ps before.unique) (sym (passed_next image index place at))
-          (first_kept image (first_commands image index) before.unique are.first cmd place (segment_is_not_unique cmd same) is (passed_header image index place at));
-      segments = range_noted image index place at (is_segment image) before.segments are.segments c.note.new.self
-          (at_cmd image index place at cmd is (λ n. n == loader.LC_SEGMENT_64) loader.LC_SEGMENT_64 same) c.note.ensures.first c.note.ensures.more;
-      builds = range_kept image index place at (is_build image) before.builds are.builds
-          (at_cmd image index place at cmd is (λ n. n == loader.LC_BUILD_VERSION) loader.LC_SEGMENT_64 same);
-      libraries = range_kept image index place at (is_library image) before.libraries are.libraries
-          (at_cmd image index place at cmd is names_library loader.LC_SEGMENT_64 same);
-      tables = range_kept image index place at (names_table image) before.tables are.tables
-          (at_cmd image index place at cmd is (λ n. option_map_or has_tables (structure_of n) false) loader.LC_SEGMENT_64 same);
-    }
+    let same = c.if-command-eq-LC_SEGMENT_64.true in
+    let noted = c.note in
+    let by = at_cmd image index place at cmd is in
+    others_kept image index place at cmd is before noted.new.self before.builds (λ unique. false≢true (subst IsUnique same unique)) (by names_library loader.LC_SEGMENT_64 same)
+    (by (λ n. option_map_or has_tables (structure_of n) false) loader.LC_SEGMENT_64 same)
+    (range_noted image index place at (has_cmd loader.LC_SEGMENT_64 image) before.segments are.segments noted.new.self (by (λ n. n == loader.LC_SEGMENT_64) loader.LC_SEGMENT_64 same) noted.ensures.first noted.ensures.more)
+    (range_kept image index place at (has_cmd loader.LC_BUILD_VERSION image) before.builds are.builds (by (λ n. n == loader.LC_BUILD_VERSION) loader.LC_SEGMENT_64 same)) are
 
 pub returns-then-command-eq-LC_BUILD_VERSION-clause-landmarks : goal.returns-then-command-eq-LC_BUILD_VERSION-clause-landmarks
 returns-then-command-eq-LC_BUILD_VERSION-clause-landmarks c image at is are =
@@ -39,18 +35,12 @@ returns-then-command-eq-LC_BUILD_VERSION-clause-landmarks c image at is are =
     let place = c.args.command.place in
     let cmd = c.args.command.cmd in
     let same = c.if-command-eq-LC_BUILD_VERSION.true in
-    let noted = c.note-then-command-eq-LC_BUILD_VERSION in record {
-      first = subst (λ ps. AreFirst image ps before.unique) (sym (passed_next image index place at))
-          (first_kept image (first_commands image index) before.unique are.first cmd place (build_is_not_unique cmd same) is (passed_header image index place at));
-      segments = range_kept image index place at (is_segment image) before.segments are.segments
-          (at_cmd image index place at cmd is (λ n. n == loader.LC_SEGMENT_64) loader.LC_BUILD_VERSION same);
-      builds = range_noted image index place at (is_build image) before.builds are.builds noted.new.self
-          (at_cmd image index place at cmd is (λ n. n == loader.LC_BUILD_VERSION) loader.LC_BUILD_VERSION same) noted.ensures.first noted.ensures.more;
-      libraries = range_kept image index place at (is_library image) before.libraries are.libraries
-          (at_cmd image index place at cmd is names_library loader.LC_BUILD_VERSION same);
-      tables = range_kept image index place at (names_table image) before.tables are.tables
-          (at_cmd image index place at cmd is (λ n. option_map_or has_tables (structure_of n) false) loader.LC_BUILD_VERSION same);
-    }
+    let noted = c.note-then-command-eq-LC_BUILD_VERSION in
+    let by = at_cmd image index place at cmd is in
+    others_kept image index place at cmd is before before.segments noted.new.self (λ unique. false≢true (subst IsUnique same unique)) (by names_library loader.LC_BUILD_VERSION same)
+    (by (λ n. option_map_or has_tables (structure_of n) false) loader.LC_BUILD_VERSION same)
+    (range_kept image index place at (has_cmd loader.LC_SEGMENT_64 image) before.segments are.segments (by (λ n. n == loader.LC_SEGMENT_64) loader.LC_BUILD_VERSION same))
+    (range_noted image index place at (has_cmd loader.LC_BUILD_VERSION image) before.builds are.builds noted.new.self (by (λ n. n == loader.LC_BUILD_VERSION) loader.LC_BUILD_VERSION same) noted.ensures.first noted.ensures.more) are
 
 -- what is noted of the library that the command names, or of its tables
 module _ (c : After-note-2) (image : List ℕ) (at : IsAt image c.args.index c.args.command.place) (is : c.args.command.cmd ≡ command_cmd image c.args.command.place)
@@ -115,10 +105,10 @@ returns-clause-landmarks c image at is are =
     let (same_unique, same_segments, same_builds, libraries, tables) = noted c image at is are in record {
       first = subst (λ ps. AreFirst image ps c.note-2.new.self) (sym (passed_next image index place at))
           (c.note-2.ensures.first image (first_commands image index) is (passed_header image index place at) (subst (AreFirst image (first_commands image index)) (sym same_unique) are.first));
-      segments = subst (IsRange image (is_segment image) (index + 1)) (sym same_segments)
-          (range_kept image index place at (is_segment image) before.segments are.segments (other_cmd image index place at cmd is loader.LC_SEGMENT_64 c.if-command-eq-LC_SEGMENT_64.false));
-      builds = subst (IsRange image (is_build image) (index + 1)) (sym same_builds)
-          (range_kept image index place at (is_build image) before.builds are.builds (other_cmd image index place at cmd is loader.LC_BUILD_VERSION c.if-command-eq-LC_BUILD_VERSION.false));
+      segments = subst (IsRange image (has_cmd loader.LC_SEGMENT_64 image) (index + 1)) (sym same_segments)
+          (range_kept image index place at (has_cmd loader.LC_SEGMENT_64 image) before.segments are.segments (other_cmd image index place at cmd is loader.LC_SEGMENT_64 c.if-command-eq-LC_SEGMENT_64.false));
+      builds = subst (IsRange image (has_cmd loader.LC_BUILD_VERSION image) (index + 1)) (sym same_builds)
+          (range_kept image index place at (has_cmd loader.LC_BUILD_VERSION image) before.builds are.builds (other_cmd image index place at cmd is loader.LC_BUILD_VERSION c.if-command-eq-LC_BUILD_VERSION.false));
       libraries = libraries;
       tables = tables;
     }
