@@ -11,19 +11,21 @@ use Rattle.macho_fields.proofs.FirstPlaces.{AreBreaks}
 use Rattle.macho_fields.proofs.Lists.{any_of}
 use Rattle.macho_image.specs.Opened.{IsOpened}
 use Rattle.macho_strict.specs.Claims.{least_option, AreNoted}
-use Rattle.macho_strict.specs.Passed.{occupied, ArePassedFor, CoverSame}
+use Rattle.macho_strict.specs.Passed.{AreCounted, occupied, ArePassedFor, CoverSame}
 use Rattle.macho_strict.specs.Elements.{elements_of}
-use Rattle.macho_strict.specs.Gaps.{AreInside, ArePassed, IsFree}
+use Rattle.macho_strict.specs.Gaps.{AreInside, IsFree}
 use Rattle.macho_strict.specs.Rules.{BreaksStrictImage, SharesBytes, EndsPast, SomeElementEndsPast}
 use Rattle.macho_strict.specs.Sharing.{IsFirstSharing, tagged_elements}
 use Rattle.macho_strict.specs.Verdict.{element_spans}
 use Rattle.macho_strict.specs.declared.claims.Noted.{Noted}
 use Rattle.macho_strict.specs.declared.claims.Noted.TheVariants as noted
 use Rattle.macho_strict.specs.declared.elements.Element.{Element}
+use Rattle.macho_strict.specs.declared.gaps.CountedGaps.{CountedGaps}
 use Rattle.macho_strict.specs.declared.gaps.Gaps.{Gaps}
+use Rattle.macho_strict.specs.declared.gaps.Wanted.{Wanted}
 use Rattle.macho_strict.specs.declared.gaps.Wanted.TheVariants as wanted
 use Rattle.macho_strict.proofs.ElementPlaces.{place_of, elements_rise}
-use Rattle.macho_strict.proofs.Occupied.{with_place, without_place}
+use Rattle.macho_strict.proofs.Occupied.{occupied_same, with_place, without_place}
 use Rattle.macho_strict.proofs.Passed.{no_span, least_same, passed_empty}
 use Rattle.macho_strict.proofs.Sharings.{least_sharing, none_sharing}
 
@@ -53,17 +55,21 @@ module _ (elements : List Element) (x : Element) where
   listed_still list empty are = are ∙ sym (without_place elements x empty)
 
   -- or was passed
-  pub passed_more : (image : List ℕ) (gaps : Gaps) → ArePassed wanted.NonZero image (map span_of elements ++ x.span ∷ []) gaps → ArePassed wanted.NonZero image (map span_of (elements ++ x ∷ [])) gaps
-  passed_more image gaps passed = subst (λ (spans : List Span). ArePassed wanted.NonZero image spans gaps) (sym (map_push span_of elements x)) passed
+  pub counted_more : (wanted : Wanted) (bytes : List ℕ) (counted : CountedGaps) → AreCounted wanted bytes (map span_of elements ++ x.span ∷ []) counted → AreCounted wanted bytes (map span_of (elements ++ x ∷ [])) counted
+  counted_more wanted bytes counted are = subst (λ (spans : List Span). AreCounted wanted bytes spans counted) (sym (map_push span_of elements x)) are
 
   -- or is not, if it has none
+  pub counted_still : (wanted : Wanted) (bytes : List ℕ) (counted : CountedGaps) → x.span.len ≡ 0 → AreCounted wanted bytes (map span_of elements) counted → AreCounted wanted bytes (map span_of (elements ++ x ∷ [])) counted
+  counted_still wanted bytes counted empty (are, count) =
+      counted_more wanted bytes counted (
+        passed_empty wanted bytes (map span_of elements) x.span counted.gaps are empty,
+        count ∙ ap (λ (spans : List Span). min (length spans) (2 ^ 64 - 1)) (sym (occupied_same (map span_of elements) x.span empty)),
+      )
+
   pub noted_empty : (image : List ℕ) (held : Noted) → x.span.len ≡ 0 → AreNoted image elements held → AreNoted image (elements ++ x ∷ []) held
   noted_empty image (noted.Listed list) empty are = listed_still list.spans empty are
   noted_empty image noted.Unlisted empty are = tt
-  noted_empty image (noted.Passed counted) empty (are, count) = (
-    passed_more image counted.gaps (passed_empty wanted.NonZero image (map span_of elements) x.span counted.gaps are empty),
-    count ∙ ap (λ (spans : List Span). min (length spans) (2 ^ 64 - 1)) (sym (without_place elements x empty)),
-  )
+  noted_empty image (noted.Passed counted) empty are = counted_still wanted.NonZero image counted empty are
 
 -- All elements of an image were passed
 

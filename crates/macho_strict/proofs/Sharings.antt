@@ -14,12 +14,11 @@ use Rattle.macho_spans.specs.Overlap.{span_at, SharesEarlier, IsLeastSharing}
 use Rattle.macho_spans.specs.SpanOrder.{spans_in, tags_in}
 use Rattle.macho_spans.specs.declared.span.Span.{Span}
 use Rattle.macho_rules.proofs.Searches.{Rising, ordered_at}
-use Rattle.macho_strict.specs.Gaps.{ArePassed}
-use Rattle.macho_strict.specs.Passed.{occupied}
+use Rattle.macho_strict.specs.Passed.{AreCounted, occupied}
 use Rattle.macho_strict.specs.Rules.{SharesEarlierElement}
 use Rattle.macho_strict.specs.Sharing.{tagged, IsFirstSharing}
 use Rattle.macho_strict.specs.declared.elements.Element.{Element}
-use Rattle.macho_strict.specs.declared.gaps.Gaps.{Gaps}
+use Rattle.macho_strict.specs.declared.gaps.CountedGaps.{CountedGaps}
 use Rattle.macho_strict.specs.declared.gaps.Wanted.{Wanted}
 
 -- What is read of each element
@@ -65,12 +64,12 @@ drained_spans all given is spans xs ran are = are ∙ ap (map span_of) (drained 
 pub drained_occupied : (all given : List Element) → given ≡ all → (spans : List Span) (xs : List Element) → Drains (YieldsFirst (λ (left : List Element). left)) given xs → spans ≡ occupied (map span_of xs) → spans ≡ occupied (map span_of all)
 drained_occupied all given is spans xs ran are = are ∙ ap (λ (es : List Element). occupied (map span_of es)) (drained all given is xs ran)
 
--- and so are those that were passed, of whatever bytes
-pub drained_passed : (wanted : Wanted) (all given : List Element) → given ≡ all → (image bytes : List ℕ) → bytes ≡ image → (gaps : Gaps) (xs : List Element)
-    → Drains (YieldsFirst (λ (left : List Element). left)) given xs → ArePassed wanted bytes (map span_of xs) gaps → ArePassed wanted image (map span_of all) gaps
-drained_passed wanted all given is image bytes own gaps xs ran passed =
-    subst (λ (es : List Element). ArePassed wanted image (map span_of es) gaps) (drained all given is xs ran)
-    (subst (λ (bs : List ℕ). ArePassed wanted bs (map span_of xs) gaps) own passed)
+-- and so are those that were passed and counted, of whatever bytes
+pub drained_counted : (wanted : Wanted) (all given : List Element) → given ≡ all → (image bytes : List ℕ) → bytes ≡ image → (counted : CountedGaps) (xs : List Element)
+    → Drains (YieldsFirst (λ (left : List Element). left)) given xs → AreCounted wanted bytes (map span_of xs) counted → AreCounted wanted image (map span_of all) counted
+drained_counted wanted all given is image bytes own counted xs ran are =
+    subst (λ (es : List Element). AreCounted wanted image (map span_of es) counted) (drained all given is xs ran)
+    (subst (λ (bs : List ℕ). AreCounted wanted bs (map span_of xs) counted) own are)
 
 -- The spans of all of them
 

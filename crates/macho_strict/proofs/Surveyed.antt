@@ -16,12 +16,13 @@ use Rattle.macho_image.specs.Opened.{IsOpened}
 use Rattle.macho_rules.proofs.Searches.{ordered_at}
 use Rattle.macho_rules.proofs.SegmentItems.{segments_spread}
 use Rattle.macho_image.proofs.OpenedWalk.{opened_commands}
-use Rattle.macho_strict.specs.Gaps.{IsStray, ArePassed}
+use Rattle.macho_strict.specs.Gaps.{IsStray}
+use Rattle.macho_strict.specs.Passed.{AreCounted}
 use Rattle.macho_strict.specs.Rules.{BreaksStrictImage, SharesFilePart, all_segments}
 use Rattle.macho_strict.specs.Sharing.{file_part, all_parts, tagged_parts, IsFirstSharing}
 use Rattle.macho_strict.specs.Verdict.{file_parts}
 use Rattle.macho_strict.specs.declared.elements.Element.{Element}
-use Rattle.macho_strict.specs.declared.gaps.Gaps.{Gaps}
+use Rattle.macho_strict.specs.declared.gaps.CountedGaps.{CountedGaps}
 use Rattle.macho_strict.specs.declared.gaps.Wanted.TheVariants as wanted
 use Rattle.macho_fields.specs.declared.rule.Rule.TheVariants as rule
 use Rattle.macho_strict.proofs.Passed.{least_same, all_of_free, free_of_all}
@@ -45,8 +46,8 @@ module _ (image : List ℕ) where
   pub parts_are : map span_of (all_parts image) ≡ file_parts image
   parts_are = map-map span_of (file_part image) segments
 
-  pub passed_parts : (gaps : Gaps) → ArePassed wanted.NonZero image (map span_of (all_parts image)) gaps → ArePassed wanted.NonZero image (file_parts image) gaps
-  passed_parts gaps = subst (λ (spans : List Span). ArePassed wanted.NonZero image spans gaps) parts_are
+  pub counted_parts : (counted : CountedGaps) → AreCounted wanted.NonZero image (map span_of (all_parts image)) counted → AreCounted wanted.NonZero image (file_parts image) counted
+  counted_parts counted = subst (λ (spans : List Span). AreCounted wanted.NonZero image spans counted) parts_are
 
   -- none shares a place with an earlier one
   pub apart_parts : ((j : ℕ) → ¬ SharesEarlier (file_parts image) j) → IsFirstSharing (tagged_parts image) None

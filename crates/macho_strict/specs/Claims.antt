@@ -1,14 +1,12 @@
 -- What one walk over the elements of an image finds.
-use Rattle.std.specs.Prelude.{◌≡◌, ◌-◌, ◌^◌, ℕ, min, List, length, map, Option, Some, None, ⊤}
+use Rattle.std.specs.Prelude.{◌≡◌, ℕ, min, List, map, Option, Some, None, ⊤}
 use Rattle.macho_fields.specs.FirstPlace.{IsLeastPlace}
 use Rattle.macho_fields.specs.declared.rule.Rule.TheVariants as rule
-use Rattle.macho_strict.specs.Gaps.{ArePassed, IsStray}
-use Rattle.macho_strict.specs.Passed.{occupied, IsByStart}
+use Rattle.macho_strict.specs.Gaps.{IsStray}
+use Rattle.macho_strict.specs.Passed.{AreCounted, occupied, IsByStart}
 use Rattle.macho_strict.specs.Rules.{BreaksStrictImage}
 use Rattle.macho_strict.specs.Verdict.{element_spans}
-use Rattle.macho_spans.specs.declared.span.Span.{Span}
 use Rattle.macho_strict.specs.declared.claims.Claims.{Claims}
-use Rattle.macho_strict.specs.declared.claims.CountedGaps.{CountedGaps}
 use Rattle.macho_strict.specs.declared.claims.Noted.{Noted}
 use Rattle.macho_strict.specs.declared.claims.Noted.TheVariants as noted
 use Rattle.macho_strict.specs.declared.elements.Element.{Element}
@@ -21,19 +19,13 @@ least_option (Some a) None = Some a
 least_option None (Some b) = Some b
 least_option None None = None
 
--- these spans of an image were passed, and those that have a place were counted
-abbrev pub AreCounted : List ℕ → List Span → CountedGaps → Type 0
-AreCounted image spans counted =
-    ArePassed wanted.NonZero image spans counted.gaps
-    × (counted.count ≡ min (length (occupied spans)) (2 ^ 64 - 1))
-
 -- what was noted about the elements
 abbrev pub AreNoted : List ℕ → List Element → Noted → Type 0
 AreNoted image elements (noted.Listed list) =
     list.spans ≡ occupied (map (λ element. element.span) elements)
 AreNoted image elements noted.Unlisted = ⊤
 AreNoted image elements (noted.Passed counted) =
-    AreCounted image (map (λ element. element.span) elements) counted
+    AreCounted wanted.NonZero image (map (λ element. element.span) elements) counted
 
 -- what is found of the elements of an image: where they break their rule, the least place of a byte that
 -- is not zero and lies in none of them, and their order

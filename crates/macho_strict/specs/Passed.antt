@@ -1,11 +1,13 @@
 -- Spans that were passed by their starts: in their own order, or sorted.
-use Rattle.std.specs.Prelude.{◌↔◌, ℕ, nat_lt, List, filter, Option, Some, None, IsPermutation}
+use Rattle.std.specs.Prelude.{◌≡◌, ◌-◌, ◌^◌, ◌↔◌, ℕ, nat_lt, min, length, List, filter, Option, Some, None, IsPermutation}
 use Rattle.std.specs.List.Sorted.{IsNonDecreasingBy}
 use Rattle.macho_spans.specs.Overlap.{IsAscending, SharesEarlier, sorted_spans}
 use Rattle.macho_spans.specs.declared.overlap.Numbered.{Numbered}
 use Rattle.macho_spans.specs.declared.span.Span.{Span}
 use Rattle.macho_strict.specs.Gaps.{ArePassed, ComeByStart, IsFree}
+use Rattle.macho_strict.specs.declared.gaps.CountedGaps.{CountedGaps}
 use Rattle.macho_strict.specs.declared.gaps.Gaps.{Gaps}
+use Rattle.macho_strict.specs.declared.gaps.Wanted.{Wanted}
 use Rattle.macho_strict.specs.declared.gaps.Wanted.TheVariants as wanted
 
 -- the spans that have a place
@@ -15,6 +17,12 @@ occupied spans = filter (λ span. nat_lt 0 span.len) spans
 -- each place lies in none of the spans, or in none of the others either
 abbrev pub CoverSame : List Span → List Span → Type 0
 CoverSame spans others = (place : ℕ) → IsFree spans place ↔ IsFree others place
+
+-- these spans were passed, and those that have a place were counted
+abbrev pub AreCounted : Wanted → List ℕ → List Span → CountedGaps → Type 0
+AreCounted wanted bytes spans counted =
+    ArePassed wanted bytes spans counted.gaps
+    × (counted.count ≡ min (length (occupied spans)) (2 ^ 64 - 1))
 
 -- the gaps are those between the spans of an image, which were passed in some order
 pub record ArePassedFor (image : List ℕ) (spans : List Span) (gaps : Gaps) : Type 0 where

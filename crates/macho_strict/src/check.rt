@@ -35,9 +35,10 @@ pub(crate) fn check_image(alloc: Global, image: &Image) -> Result<(), Refusal>
     let claims = Claims::of(alloc, image, noted.elements)?;
     Rule::ElementOverlap.judge(claims.broken)?;
     Rule::StrayByte.judge(survey.stray)?;
+    let parts = survey.count;
     encrypted_range(alloc, image, survey, noted.encrypted)?;
     Rule::CommandSlack.judge(noted.slack)?;
-    unclaimed_byte(alloc, image, &claims)?;
+    unclaimed_byte(alloc, image, &claims, parts)?;
     Ok(())
 }
 

@@ -12,7 +12,7 @@ ghost use Rattle.macho_strict.specs.Verdict.{element_spans};
 
 use crate::by_start::{Passed, occupied_list, pass_sorted};
 use crate::elements::{Element, Elements, Tables, contents, headers, relocations, tables_of};
-use crate::gaps::{Gaps, Wanted, stray_in};
+use crate::gaps::{CountedGaps, Gaps, Wanted, stray_in};
 use crate::overlap::{count_of, gaps_between, span_list};
 use macho_fields::{Bytes, Span, SpanList, SpansByStart, Structure};
 use macho_image::{Command, Image, Sections};
@@ -34,41 +34,6 @@ pub(crate) enum Noted<'a> {
     Unlisted,
     // What lies between them, if they are many.
     Passed(CountedGaps<'a>),
-}
-
-// What lies between elements, and how many of them have bytes.
-#[derive(Clone, Copy)]
-pub(crate) struct CountedGaps<'a> {
-    gaps: Gaps<'a>,
-    // The largest `usize` where there are more.
-    count: usize,
-}
-
-impl<'a> CountedGaps<'a> {
-    ghost use Rattle.std.specs.Prelude.{◌++◌, ◌∷◌, [], ◌<◌, List, ℕ};
-    ghost use Rattle.macho_fields.specs.Bytes.{bytes_of};
-    ghost use Rattle.macho_spans.specs.declared.span.Span.{Span};
-    ghost use Rattle.macho_strict.specs.Claims.{AreCounted};
-
-    // No element was passed, of an image that has these bytes.
-    fn new(bytes: Bytes<'a>) -> CountedGaps<'a>
-        ensures { AreCounted (bytes_of bytes.entry) [] result }
-    {
-        CountedGaps {
-            gaps: Gaps::new(bytes, Wanted::NonZero),
-            count: 0,
-        }
-    }
-
-    // Passes the bytes of one more element, which has some.
-    fn pass(&mut self, span: Span)
-        requires { 0 < span.len }
-        ensures { (image : List ℕ) (spans : List Span) → AreCounted image spans self.old
-            → AreCounted image (spans ++ span ∷ []) self.new }
-    {
-        self.gaps.pass(span);
-        self.count = self.count.saturating_add(1);
-    }
 }
 
 impl<'a> Noted<'a> {
@@ -98,7 +63,7 @@ impl<'a> Noted<'a> {
         ensures { AreNoted (bytes_of bytes.entry) [] result }
     {
         if !few {
-            return Noted::Passed(CountedGaps::new(bytes));
+            return Noted::Passed(CountedGaps::new(bytes, Wanted::NonZero));
         }
         match SpanList::with_capacity(alloc, ROOM) {
             Ok(list) => Noted::Listed(list),
@@ -183,7 +148,7 @@ impl<'a> Noted<'a> {
         match self {
             Noted::Listed(list) => pass_sorted(image.bytes(), list),
             Noted::Unlisted => Passed {
-                gaps: gaps_between(image.bytes(), Wanted::NonZero, Elements::of(image)),
+                gaps: gaps_between(image.bytes(), Wanted::NonZero, Elements::of(image)).gaps,
                 sorted: None,
             },
             Noted::Passed(counted) => Passed {
@@ -303,7 +268,9 @@ impl Claims {
     {
         match &self.sorted {
             Some(sorted) => stray_in(image.bytes(), wanted, sorted),
-            None => gaps_between(image.bytes(), wanted, Elements::of(image)).stray(),
+            None => gaps_between(image.bytes(), wanted, Elements::of(image))
+                .gaps
+                .stray(),
         }
     }
 }

@@ -231,6 +231,43 @@ impl<'a> Gaps<'a> {
     }
 }
 
+// What lies between spans, and how many of them have a place.
+#[derive(Clone, Copy)]
+pub(crate) struct CountedGaps<'a> {
+    pub(crate) gaps: Gaps<'a>,
+    // The largest `usize` where there are more.
+    pub(crate) count: usize,
+}
+
+impl<'a> CountedGaps<'a> {
+    ghost use Rattle.std.specs.Prelude.{◌++◌, ◌∷◌, [], ◌<◌, List, ℕ};
+    ghost use Rattle.macho_fields.specs.Bytes.{bytes_of};
+    ghost use Rattle.macho_spans.specs.declared.span.Span.{Span};
+    ghost use Rattle.macho_strict.specs.Passed.{AreCounted};
+    ghost use Rattle.macho_strict.specs.declared.gaps.Wanted.{Wanted};
+
+    // No span was passed.
+    pub(crate) fn new(bytes: Bytes<'a>, wanted: Wanted<'a>) -> CountedGaps<'a>
+        ensures { AreCounted wanted.entry (bytes_of bytes.entry) [] result }
+    {
+        CountedGaps {
+            gaps: Gaps::new(bytes, wanted),
+            count: 0,
+        }
+    }
+
+    // Passes one more span, which has a place.
+    pub(crate) fn pass(&mut self, span: Span)
+        requires { 0 < span.len }
+        ensures { (wanted : Wanted) (bytes : List ℕ) (spans : List Span)
+            → AreCounted wanted bytes spans self.old
+            → AreCounted wanted bytes (spans ++ span ∷ []) self.new }
+    {
+        self.gaps.pass(span);
+        self.count = self.count.saturating_add(1);
+    }
+}
+
 // What lies between the spans, which are passed by their starts.
 pub(crate) fn gaps_in<'a>(bytes: Bytes<'a>, wanted: Wanted<'a>, spans: &SpansByStart) -> Gaps<'a>
     requires { IsNonDecreasingBy (λ span. span.start) (sorted_spans spans.now) }

@@ -3,14 +3,14 @@
 ghost use Rattle.std.specs.Prelude.{◌≡◌, ◌-◌, ◌*◌, ◌+◌, ◌≤◌, ◌^◌, List, length, map, max, min, IfOk};
 ghost use Rattle.std.specs.Iterator.{Drains, IsFinite};
 ghost use Rattle.macho_fields.specs.Bytes.{bytes_of};
-ghost use Rattle.macho_strict.specs.Gaps.{ArePassed};
+ghost use Rattle.macho_strict.specs.Passed.{AreCounted};
 ghost use Rattle.macho_strict.specs.Sharing.{IsFirstSharing, tagged_parts};
 ghost use Rattle.macho_strict.specs.Sharing.{file_part as file_part_of};
 ghost use Rattle.macho_strict.specs.declared.elements.Element.{Element};
 ghost use Rattle.macho_strict.specs.declared.gaps.Wanted.{Wanted};
 
 use crate::elements::Element;
-use crate::gaps::{Gaps, Wanted};
+use crate::gaps::{CountedGaps, Wanted};
 use macho_fields::{Bytes, SpanList};
 use macho_image::{Image, Segment, Segments};
 use std::alloc::{AllocError, Global};
@@ -88,22 +88,24 @@ pub(crate) fn sorted_file_overlap(alloc: Global, image: &Image) -> Result<Option
     )
 }
 
-// What lies between the elements, which are passed in their order.
+// What lies between the elements, which are passed in their order, and how many of them have bytes.
 pub(crate) fn gaps_between<'a, I: Iterator<Item = Element>>(
     bytes: Bytes<'a>,
     wanted: Wanted<'a>,
     elements: I,
-) -> Gaps<'a>
+) -> CountedGaps<'a>
     requires can { I.can_next elements }
     requires finite { IsFinite (I.remaining elements) }
     ensures { (all : List Element) × Drains I.next_gives elements all
-        × ArePassed wanted.entry (bytes_of bytes.entry) (map (λ element. element.span) all) result }
+        × AreCounted wanted.entry (bytes_of bytes.entry) (map (λ element. element.span) all) result }
 {
-    let mut gaps = Gaps::new(bytes, wanted);
+    let mut counted = CountedGaps::new(bytes, wanted);
     for element in elements {
-        gaps.pass(element.span);
+        if element.span.len > 0 {
+            counted.pass(element.span);
+        }
     }
-    gaps
+    counted
 }
 
 // How many elements there are, or the largest `usize` where there are more.

@@ -11,8 +11,8 @@ ghost use Rattle.macho_strict.specs.Verdict.{file_parts};
 
 use crate::by_start::{Passed, occupied_list, pass_sorted};
 use crate::disjoint::Disjoint;
-use crate::gaps::Wanted;
-use crate::overlap::{FileParts, count_of, gaps_between, sorted_file_overlap};
+use crate::gaps::{CountedGaps, Wanted};
+use crate::overlap::{FileParts, gaps_between, sorted_file_overlap};
 use macho_fields::header::loader::mach_header_64::SIZEOFCMDS;
 use macho_fields::{Break, Rule, SpanList, SpansByStart};
 use macho_image::{Image, Segment};
@@ -62,10 +62,12 @@ pub(crate) struct FilePartSurvey {
     pub(crate) stray: Option<u64>,
     // Those that have bytes, by their starts, or `None` if all come in that order.
     sorted: Option<SpansByStart>,
+    // How many have bytes, as far as they were counted.
+    pub(crate) count: usize,
 }
 
 impl FilePartSurvey {
-    ghost use Rattle.std.specs.Prelude.{◌≡◌, ℕ, List, true};
+    ghost use Rattle.std.specs.Prelude.{◌≡◌, ◌≤◌, ℕ, List, length, true};
     ghost use Rattle.macho_fields.specs.Layers.{KeptBelow};
     ghost use Rattle.macho_fields.specs.RuleList.{rank};
     ghost use Rattle.macho_fields.specs.declared.rule.Rule.{Rule};
@@ -84,25 +86,31 @@ impl FilePartSurvey {
         ensures survey { IfOk result (IsFilePartSurveyOf image.now) }
         ensures memory { OnErr result (¬ IsAscending (file_parts image.now)) }
     {
-        let gaps = gaps_between(image.bytes(), Wanted::NonZero, FileParts::of(image));
+        let CountedGaps { gaps, count } = gaps_between(
+            image.bytes(),
+            Wanted::NonZero,
+            FileParts::of(image),
+        );
         if gaps.ascend() {
-            return Ok(FilePartSurvey::new(Passed { gaps, sorted: None }));
+            return Ok(FilePartSurvey::new(Passed { gaps, sorted: None }, count));
         }
-        let list = part_list(alloc, image)?;
-        Ok(FilePartSurvey::new(pass_sorted(image.bytes(), list)))
+        let list = part_list(alloc, image, count)?;
+        Ok(FilePartSurvey::new(pass_sorted(image.bytes(), list), count))
     }
 
-    // What is found of file parts that were passed.
-    fn new(passed: Passed) -> FilePartSurvey
+    // What is found of file parts that were passed. `count` of them have bytes.
+    fn new(passed: Passed, count: usize) -> FilePartSurvey
         requires { passed.gaps.by_start ≡ true }
         ensures { (image : List ℕ) → IsOpened image
             → ArePassedBy image (file_parts image) passed.entry.gaps passed.entry.sorted
-            → IsByStart (file_parts image) passed.entry.sorted → IsFilePartSurveyOf image result }
+            → IsByStart (file_parts image) passed.entry.sorted
+            → count ≤ length (occupied (file_parts image)) → IsFilePartSurveyOf image result }
     {
         FilePartSurvey {
             apart: passed.gaps.ascend(),
             stray: passed.gaps.stray(),
             sorted: passed.sorted,
+            count,
         }
     }
 
@@ -141,15 +149,15 @@ impl FilePartSurvey {
     {
         match self.sorted {
             Some(sorted) => Ok(Disjoint::new(sorted)),
-            None => Ok(Disjoint::new(part_list(alloc, image)?.sorted())),
+            None => Ok(Disjoint::new(part_list(alloc, image, self.count)?.sorted())),
         }
     }
 }
 
-// The file parts of the image that have bytes, in their order.
-fn part_list(alloc: Global, image: &Image) -> Result<SpanList, AllocError>
+// The file parts of the image that have bytes, in their order. The memory for `count` of them is allocated
+// at once.
+fn part_list(alloc: Global, image: &Image, count: usize) -> Result<SpanList, AllocError>
     ensures { IfOk result (λ list. list.spans ≡ occupied (file_parts image.now)) }
 {
-    let count = count_of(FileParts::of(image));
     occupied_list(alloc, count, FileParts::of(image))
 }

@@ -26,22 +26,32 @@ use std::alloc::{AllocError, Global};
 
 // Each byte of a segment is zero, a NOP of code, or lies in an element.
 //
-// It takes memory only if a NOP lies in no element: 24 bytes for each segment, to sort those that may be
-// executed.
-pub(crate) fn unclaimed_byte(alloc: Global, image: &Image, claims: &Claims) -> Result<(), Refusal>
+// It takes memory only if a NOP lies in no element: 24 bytes for each of the segments that have bytes,
+// `parts` in number, to sort those that may be executed.
+pub(crate) fn unclaimed_byte(
+    alloc: Global,
+    image: &Image,
+    claims: &Claims,
+    parts: usize,
+) -> Result<(), Refusal>
     requires claims { AreClaims image.now claims.now }
     requires kept { KeptBelow (BreaksStrictImage image.now) (rank Rule.UnclaimedByte) }
     ensures { ContinuesWithMemory (BreaksStrictImage image.now) Rule.UnclaimedByte
         (HasLooseNop image.now) result }
 {
-    let unclaimed = first_unclaimed(alloc, image, claims)?;
+    let unclaimed = first_unclaimed(alloc, image, claims, parts)?;
     Rule::UnclaimedByte.judge(unclaimed)?;
     Ok(())
 }
 
 // The least place of a byte that breaks the rule. Only if the first byte in no element is a NOP, the
-// segments that may be executed have to be looked at.
-fn first_unclaimed(alloc: Global, image: &Image, claims: &Claims) -> Result<Option<u64>, AllocError>
+// segments that may be executed have to be looked at, with memory for `parts` of them.
+fn first_unclaimed(
+    alloc: Global,
+    image: &Image,
+    claims: &Claims,
+    parts: usize,
+) -> Result<Option<u64>, AllocError>
     requires claims { AreClaims image.now claims.now }
     requires kept { KeptBelow (BreaksStrictImage image.now) (rank Rule.UnclaimedByte) }
     ensures found { IfOk result (IsLeastPlace (BreaksStrictImage image.now Rule.UnclaimedByte)) }
@@ -54,7 +64,7 @@ fn first_unclaimed(alloc: Global, image: &Image, claims: &Claims) -> Result<Opti
     if !is_nop(cpu, image.bytes(), place) {
         return Ok(Some(place));
     }
-    let code = code_of(alloc, image)?;
+    let code = sorted_code(alloc, image, parts)?;
     Ok(claims.stray(image, Wanted::Unpadded(cpu, &code)))
 }
 
@@ -66,7 +76,17 @@ pub fn code_of(alloc: Global, image: &Image) -> Result<Disjoint, AllocError>
     ensures cover { IfOk result (CoverSame (code_parts image.now)) }
     ensures parts { IfOk result (IsPermutation (occupied (code_parts image.now))) }
 {
-    let mut list = SpanList::with_capacity(alloc, count_of(FileParts::of(image)))?;
+    sorted_code(alloc, image, count_of(FileParts::of(image)))
+}
+
+// The same. The memory for `count` spans is allocated at once.
+fn sorted_code(alloc: Global, image: &Image, count: usize) -> Result<Disjoint, AllocError>
+    requires opened { IsOpened image.now }
+    requires kept { KeptBelow (BreaksStrictImage image.now) (rank Rule.UnclaimedByte) }
+    ensures cover { IfOk result (CoverSame (code_parts image.now)) }
+    ensures parts { IfOk result (IsPermutation (occupied (code_parts image.now))) }
+{
+    let mut list = SpanList::with_capacity(alloc, count)?;
     push_code(&mut list, image)?;
     Ok(Disjoint::new(list.sorted()))
 }

@@ -12,4 +12,4 @@ pub returns : goal.returns
 returns c =
     let image = c.args.image.now in
     IfOk-weaker c.occupied_list.result _ (λ (list : SpanListView). list.spans ≡ occupied (file_parts image))
-    (λ list (all, ran, are, room). drained_occupied (all_parts image) c.of-2.result c.of-2.ensures list.spans all ran are ∙ ap occupied (parts_are image)) c.occupied_list.ensures
+    (λ list (all, ran, are, room). drained_occupied (all_parts image) c.of.result c.of.ensures list.spans all ran are ∙ ap occupied (parts_are image)) c.occupied_list.ensures

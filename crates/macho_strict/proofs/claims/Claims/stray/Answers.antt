@@ -6,22 +6,22 @@ use Rattle.macho_strict.specs.Passed.{occupied, IsByStart}
 use Rattle.macho_strict.specs.Verdict.{element_spans}
 use Rattle.macho_strict.proofs.Occupied.{cover_listed, least_covered}
 use Rattle.macho_strict.proofs.Passed.{by_start_where_sorted}
-use Rattle.macho_strict.proofs.Sharings.{drained_passed}
+use Rattle.macho_strict.proofs.Sharings.{drained_counted}
 use Rattle.macho_strict.proofs.claims.Claims.stray.Goals as goal
 
 pub stray-requires : goal.stray-requires
 stray-requires c =
     let image = c.args.image.now in
     let ran = c.gaps_between.ensures in
-    let passed = drained_passed c.args.wanted (elements_of image) c.of.result c.of.ensures.elements image (bytes_of c.bytes-in-None.result) c.bytes-in-None.ensures.bytes c.gaps_between.result ran.0 ran.1 ran.2 in
-    by_start_where_sorted c.args.wanted image (element_spans image) c.gaps_between.result passed (subst (IsByStart (element_spans image)) c.in-None.is c.requires.by_start)
+    let (passed, _) = drained_counted c.args.wanted (elements_of image) c.of.result c.of.ensures.elements image (bytes_of c.bytes-in-None.result) c.bytes-in-None.ensures.bytes c.gaps_between.result ran.0 ran.1 ran.2 in
+    by_start_where_sorted c.args.wanted image (element_spans image) c.gaps_between.result.gaps passed (subst (IsByStart (element_spans image)) c.in-None.is c.requires.by_start)
 
 pub returns-in-None : goal.returns-in-None
 returns-in-None c =
     let image = c.args.image.now in
     let ran = c.gaps_between.ensures in
     c.stray.ensures c.args.wanted image (element_spans image)
-    (drained_passed c.args.wanted (elements_of image) c.of.result c.of.ensures.elements image (bytes_of c.bytes-in-None.result) c.bytes-in-None.ensures.bytes c.gaps_between.result ran.0 ran.1 ran.2)
+    (drained_counted c.args.wanted (elements_of image) c.of.result c.of.ensures.elements image (bytes_of c.bytes-in-None.result) c.bytes-in-None.ensures.bytes c.gaps_between.result ran.0 ran.1 ran.2).0
 
 pub returns-in-Some : goal.returns-in-Some
 returns-in-Some c =

@@ -6,7 +6,7 @@ use Rattle.macho_strict.specs.Elements.{elements_of}
 use Rattle.macho_strict.specs.Passed.{ArePassedBy}
 use Rattle.macho_strict.specs.Verdict.{element_spans}
 use Rattle.macho_strict.specs.declared.gaps.Wanted.TheVariants as wanted
-use Rattle.macho_strict.proofs.Sharings.{drained_passed}
+use Rattle.macho_strict.proofs.Sharings.{drained_counted}
 use Rattle.macho_strict.proofs.claims.Noted.pass.Goals as goal
 
 pub returns-in-Listed-clause-passed : goal.returns-in-Listed-clause-passed
@@ -28,7 +28,7 @@ pub returns-in-Unlisted-clause-passed : goal.returns-in-Unlisted-clause-passed
 returns-in-Unlisted-clause-passed c =
     let image = c.args.image.now in
     let ran = c.gaps_between.ensures in
-    drained_passed wanted.NonZero (elements_of image) c.of.result c.of.ensures.elements image (bytes_of c.bytes-in-Unlisted.result) c.bytes-in-Unlisted.ensures.bytes c.gaps_between.result ran.0 ran.1 ran.2
+    (drained_counted wanted.NonZero (elements_of image) c.of.result c.of.ensures.elements image (bytes_of c.bytes-in-Unlisted.result) c.bytes-in-Unlisted.ensures.bytes c.gaps_between.result ran.0 ran.1 ran.2).0
 
 pub returns-in-Passed-clause-passed : goal.returns-in-Passed-clause-passed
 returns-in-Passed-clause-passed c =

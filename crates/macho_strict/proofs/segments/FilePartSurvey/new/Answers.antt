@@ -6,7 +6,7 @@ use Rattle.macho_strict.proofs.Sorted.{passed_for}
 use Rattle.macho_strict.proofs.segments.FilePartSurvey.new.Goals as goal
 
 pub returns : goal.returns
-returns c = λ image opened passed by_start.
+returns c = λ image opened passed by_start count.
     let parts = file_parts image in
     let are = passed_for image parts c.args.passed.gaps c.args.passed.sorted passed in
     record {
@@ -15,4 +15,5 @@ returns c = λ image opened passed by_start.
       ascend = λ up. c.ascend.ensures ∙ are.passed.ascending.1 (are.ascend up);
       stray = least_covered wanted.NonZero image image parts parts are.ordered c.stray.result refl refl are.same (c.stray.ensures wanted.NonZero image are.ordered are.passed);
       by_start = by_start;
+      count = count;
     }

@@ -10,7 +10,7 @@ use Rattle.macho_strict.proofs.Disjoints.{disjoint_sorted, none_share_filtered}
 use Rattle.macho_strict.proofs.Occupied.{cover_listed}
 use Rattle.macho_strict.proofs.Surveyed.{parts_apart}
 use Rattle.macho_strict.proofs.Unclaims.{part_of}
-use Rattle.macho_strict.proofs.unclaimed.code_of.Goals as goal
+use Rattle.macho_strict.proofs.unclaimed.sorted_code.Goals as goal
 
 pub new-requires : goal.new-requires
 new-requires c =
