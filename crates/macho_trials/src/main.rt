@@ -1,7 +1,7 @@
 #![tactic(auto)]
 //! The program that scripts of `tests/` run. Its first word says what is done with those after it:
 //!
-//! - `judge` judges files twice: `judge`;
+//! - `judge` judges files twice, and `judge-by-profiles` judges each by a profile: `judge`;
 //! - `call NAME LIMIT` makes one call that may answer want of memory: `refusals`.
 
 mod judge;
@@ -25,8 +25,14 @@ fn main(rt: HostRuntime) -> ExitCode {
 fn status_of(rt: &HostRuntime, mut words: Args<Global>) -> u8 {
     let word = words.nth(1);
     match word.as_deref() {
-        Some("judge") => judge::judge(rt),
+        Some("judge") => status_of_judge(judge::judge_twice(rt)),
+        Some("judge-by-profiles") => status_of_judge(judge::judge_by_profiles(rt)),
         Some("call") => refusals::call(rt, words),
         _ => NOTHING_DONE,
     }
+}
+
+/// 0 where all files are judged.
+fn status_of_judge(judged: Option<()>) -> u8 {
+    judged.map_or(NOTHING_DONE, |()| 0)
 }
