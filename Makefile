@@ -1,5 +1,5 @@
 # For any POSIX make. `make` builds the programs and the library. No other target builds them or needs the kit, except
-# `make lib` and `make check`.
+# `make macho-check`, `make macho-verify`, `make lib` and `make check`.
 .POSIX:
 
 PREFIX = /usr/local
@@ -45,12 +45,13 @@ FILL = sed -e 's|@PREFIX@|$(PREFIX)|; s|@LIBDIR@|$(LIBDIR)|; s|@INCLUDEDIR@|$(IN
 FILL_TOOL = sed -e "1s|@PYTHON@|$(PYTHON)|; s|@LIB_FROM_HERE@|$$(realpath -ms --relative-to='$(BINDIR)' '$(LIBDIR)')|" \
     -e "s|@PACKAGE_FROM_HERE@|$$(realpath -ms --relative-to='$(BINDIR)' "$(PYTHONDIR)")|"
 
-# On an empty input, each command builds its program, if it is not current, and the program refuses the input.
 all:
 	@packaging/library $$(echo $(PROGRAMS) | tr - _)
-	@top=. && . packaging/record.sh && for command in $(PROGRAMS); do \
-	    take_program $$command && test "$$(./$$command $$judging </dev/null)" = "refused: magic at 0x0" || exit; \
-	done
+	@for program in $(PROGRAMS); do packaging/program $$program || exit; done
+
+# One program alone.
+$(PROGRAMS):
+	@packaging/program $@
 
 lib:
 	@packaging/library
@@ -130,4 +131,4 @@ built:
 built-lib:
 	@packaging/built libkesvuot
 
-.PHONY: all lib check test bench install install-programs install-lib uninstall deb dist vectors built built-lib
+.PHONY: all $(PROGRAMS) lib check test bench install install-programs install-lib uninstall deb dist vectors built built-lib

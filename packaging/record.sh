@@ -4,13 +4,14 @@
 # can write to build/. A built program is copied to build/programs, so that it runs while rt ci has put out/ away.
 
 # take_program NAME: sets the paths of the program of a command, or of the library in both its forms, and of its record;
-# where rt ci of the gate leaves the program; and the words by which the program judges standard input.
+# where rt ci of the gate leaves the program; the words by which the program judges standard input; and how long it
+# takes to prove it on two cores, as docs/dev/building.md has it.
 take_program() {
     archive='' linking='' judging=''
     case $1 in
-        macho-check) crate=$top/crates/macho_check judging="check -" ;;
-        macho-verify) crate=$top/crates/macho_verify judging="layout -" ;;
-        libkesvuot) crate=$top/crates/macho_c ;;
+        macho-check) crate=$top/crates/macho_check judging="check -" takes="10 minutes" ;;
+        macho-verify) crate=$top/crates/macho_verify judging="layout -" takes="35 minutes" ;;
+        libkesvuot) crate=$top/crates/macho_c takes="45 minutes" ;;
     esac
     made=$crate/out/${crate##*/}
     program=$top/build/programs/$1
@@ -19,6 +20,15 @@ take_program() {
     program=$top/build/lib/libkesvuot.so.2
     archive=$top/build/lib/libkesvuot.a
     linking="packaging/library packaging/kesvuot.map"
+}
+
+# say WHAT, refuse_program WHY: of the program `name`, on standard error.
+say() {
+    printf '%s: %s\n' "$name" "$1" >&2
+}
+refuse_program() {
+    say "cannot build the program${reason:+ ($reason)}: $1"
+    exit 126
 }
 
 # Prints a hash of the program.
@@ -46,11 +56,18 @@ stamp_of_sources() {
     printf '%s\n' "$list" | LC_ALL=C sort | sha256sum
 }
 
+no_kit="the command rt of the Rattle kit is not on the PATH"
+
 # Finds the kit and its name. `rt version` prints the kit's file KIT-ID too, but takes 0.2 s.
 find_kit() {
     rt=$(readlink -f -- "$(command -v rt)") || return
     kit=$(head -n 1 -- "${rt%/bin/*}/KIT-ID" 2>/dev/null || "$rt" version </dev/null)
     [ -n "$kit" ]
+}
+
+# Whether all that the program is made of was proved, and is kept.
+is_kept() {
+    python3 "$top/packaging/prove" --kept "$rt" "${crate##*/}" 2>/dev/null
 }
 
 # Decides whether the program may run, and sets the reason if it may not. Without a kit on the PATH the recorded kit

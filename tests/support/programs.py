@@ -8,7 +8,7 @@ import shutil
 import tempfile
 from pathlib import Path
 
-from .calling import TOP, Answer, call, shell
+from .calling import TOP, call, shell
 
 # Each has the rules of those before it.
 PROFILES = tuple(row.split("\t")[1] for row in (TOP / "registry/profiles.tsv").read_text("ascii").splitlines()[1:])
@@ -21,22 +21,17 @@ MACHO_TRIALS = TOP / "crates/macho_trials/out/macho_trials"
 REAL = TOP / "tests/real"
 # The file of the stored run of macho-check, and its layout.
 EXECUTABLE, LAYOUT = TOP / "crates/macho_check/stdin", TOP / "crates/macho_check/stdout"
-NO_BYTES = b"refused: magic at 0x0\n"
-
-
-def with_record(line: str, name: str, **given) -> Answer:
-    """Runs a line of sh after take_program of packaging/record.sh, for a program or `libkesvuot`."""
-    return shell(f'top=$1 && . "$top/packaging/record.sh" && take_program "$2" && {line}', TOP, name, **given)
 
 
 def is_built(command: str) -> bool:
     """Builds the program of a command, such as ./macho-check, where it is not current."""
-    return with_record('exec "$top/$2" $judging', command, stderr=2) == Answer(1, NO_BYTES)
+    return call(TOP / "packaging/program", command, stderr=2).status == 0
 
 
 def why_outdated(name: str) -> str:
     """Why a program or `libkesvuot` is not current, or nothing where it is."""
-    return with_record('is_current || echo "${reason:-it cannot be read}"', name).text
+    return shell('top=$1 && . "$top/packaging/record.sh" && take_program "$2" && '
+                 '{ is_current || echo "${reason:-it cannot be read}"; }', TOP, name).text
 
 
 def is_kept(crate: str) -> bool:

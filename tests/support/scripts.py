@@ -27,6 +27,8 @@ PROGRAM_SCRIPTS = ("mutants program command refusals oracle strict linked unambi
 LIBRARY_SCRIPTS = ("cost rebuild library python cluster tool stores policies archives map explain slots code exports"
                    " examples rust go fuzz recipes install").split()
 SCRIPTS = [*EARLY_SCRIPTS, *PROGRAM_SCRIPTS, *LIBRARY_SCRIPTS]
+# What needs neither a proof nor the library. The first one is no script of the gate, which runs what it has proved.
+QUICK_SCRIPTS = ["trial_runs", "command", *EARLY_SCRIPTS, "edited"]
 # The niceness of a process that runs when no other one does. (setpriority(2))
 LEAST_URGENT = 19
 CLOSING_LINE = re.compile(r"(\d+) passed, (\d+) failed")
@@ -180,8 +182,9 @@ class Script:
 class Gate:
     """Runs the scripts with these names."""
 
-    def __init__(self, names: Sequence[str], is_proved: bool) -> None:
+    def __init__(self, names: Sequence[str], is_proved: bool, is_quick: bool = False) -> None:
         self.is_proved = is_proved
+        self.is_quick = is_quick
         self.terminal = Terminal(len(names) + is_proved)
         self.scripts = [Script(name, self.terminal) for name in names]
         self.counts = Counts()
@@ -229,6 +232,10 @@ class Gate:
             self.fault("macho_trials", why)
 
     def run(self) -> int:
+        if self.is_quick:
+            for script, ran in self.begin([script.name for script in self.scripts]):
+                self.show(script, ran)
+            return self.close()
         early = self.begin(EARLY_SCRIPTS, LEAST_URGENT if self.is_proved else 0)
         if self.is_proved:
             self.prove()
@@ -248,17 +255,22 @@ class Gate:
         seconds, stolen = self.terminal.seconds(), Work.now().stolen_since(self.work)
         print(f"that took {seconds // 60} min {seconds % 60} s on {len(os.sched_getaffinity(0))} processors" +
               (f", of whose time the host took {stolen} percent for others" if stolen else ""))
+        if self.is_quick:
+            print("nothing was proved: ./test proves everything, and runs all tests")
         print(self.counts, flush=True)
         return 0 if not self.counts.failed and self.counts.passed + self.skips else 1
 
 
 def main(words: Sequence[str], description: str) -> NoReturn:
     parser = argparse.ArgumentParser(description=description, formatter_class=argparse.RawDescriptionHelpFormatter)
-    parser.add_argument("--gate", action="store_true", help="run rt ci first")
+    how = parser.add_mutually_exclusive_group()
+    how.add_argument("--gate", action="store_true", help="run rt ci first")
+    how.add_argument("--quick", action="store_true", help="run what needs neither a proof nor the library")
     parser.add_argument("names", nargs="*", metavar="NAME", help=f"a script: {', '.join(SCRIPTS)}")
     chosen = parser.parse_args(words)
     unknown = set(chosen.names) - set(SCRIPTS)
     if unknown:
         parser.error(f"no script of the gate: {', '.join(sorted(unknown))}")
     names = [name for name in SCRIPTS if not chosen.names or name in chosen.names]
-    end_with_threads(Gate(names, chosen.gate).run)
+    gate = Gate(QUICK_SCRIPTS, False, True) if chosen.quick else Gate(names, chosen.gate)
+    end_with_threads(gate.run)
