@@ -21,7 +21,7 @@ if TYPE_CHECKING:
 Write = Callable[[str], Any]
 
 # The version of the package (VERSION).
-VERSION = "2.0.0"
+VERSION = "2.0.0-dev"
 
 # The form of the objects of JSON. A field may be added without a new version.
 CHECK_VERSION = 1

@@ -33,7 +33,7 @@ Exit status: 0 accepted, 1 refused, 2 usage, 3 a read or a write failed, 4 out o
 ";
 
 /// What `--version` prints.
-pub const VERSION: &str = "macho-verify 2.0.0\n";
+pub const VERSION: &str = "macho-verify 2.0.0-dev\n";
 
 /// `macho-verify`, which judges by the profile that its first word names.
 #[derive(Clone, Copy)]
