@@ -56,7 +56,11 @@ stamp_of_sources() {
     printf '%s\n' "$list" | LC_ALL=C sort | sha256sum
 }
 
-no_kit="the command rt of the Rattle kit is not on the PATH"
+# What is said where something has to be built, and find_kit finds no kit.
+no_kit="the command rt of the Rattle kit is not on the PATH.
+The kit has the compiler and the prover, and is not public. The line of \`rt version\` has to end with
+\`logic dac8208d650f15bf\`. Without the kit, install a package or an archive from someone who has it:
+docs/dev/building.md"
 
 # Finds the kit and its name. `rt version` prints the kit's file KIT-ID too, but takes 0.2 s.
 find_kit() {
