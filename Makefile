@@ -98,6 +98,7 @@ install-lib: built-lib
 	install -m 644 packaging/completions/kesvuot.bash $(TO_BASH)/kesvuot
 	install -m 644 packaging/completions/_kesvuot $(TO_ZSH)
 	install -m 644 packaging/completions/kesvuot.fish $(TO_FISH)
+	@[ "$(DESTDIR)" ] || packaging/where "$(BINDIR)" "$(LIBDIR)" "$(PYTHONDIR)"
 
 uninstall:
 	for program in $(PROGRAMS); do rm -f $(TO_BIN)/$$program $(TO_MAN)/man1/$$program.1 || exit; done
