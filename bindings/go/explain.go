@@ -1,5 +1,7 @@
 package kesvuot
 
+import "fmt"
+
 // A PartKind says what a Part is. kesvuot.h explains each kind by its number, and what its index counts.
 type PartKind uint32
 
@@ -47,6 +49,25 @@ const (
 	CodeHash        PartKind = 38
 	// registry: end
 )
+
+// The names of the kinds, by their numbers.
+var partNames = [...]string{
+	// registry: names of parts
+	"none", "file", "magic", "fat-header", "fat-table", "fat-arch", "slice", "header", "headers", "command", "segment",
+	"segment-memory", "section", "section-bytes", "section-memory", "relocations", "table", "group", "name", "symbol",
+	"indirect", "opcode", "byte", "chain-header", "chain-array", "chain-entry", "chain-starts", "chain-import",
+	"page-start", "chain-pointer", "function-start", "data-in-code-entry", "data-in-code", "export-node",
+	"signature-entry", "signature-blob", "relocation", "code-page", "code-hash",
+	// registry: end
+}
+
+// String returns the name of the kind, as docs/reference/explain.md has it, such as "segment".
+func (kind PartKind) String() string {
+	if uint64(kind) < uint64(len(partNames)) {
+		return partNames[kind]
+	}
+	return fmt.Sprintf("PartKind(%d)", uint32(kind))
+}
 
 // NoIndex stands for a missing index.
 const NoIndex = 1<<32 - 1

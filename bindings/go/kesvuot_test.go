@@ -132,6 +132,47 @@ func TestNoProfile(t *testing.T) {
 	}
 }
 
+// The cells of the rows of a table that begin so, up to the last one.
+func rowsOf(t *testing.T, page, start string) (rows [][]string) {
+	t.Helper()
+	text, err := os.ReadFile(page)
+	if err != nil {
+		t.Fatal(err)
+	}
+	for _, line := range strings.Split(string(text), "\n") {
+		if cells := strings.Split(line, start); len(cells) > 1 {
+			rows = append(rows, cells)
+		}
+	}
+	return rows
+}
+
+func TestSentences(t *testing.T) {
+	rows := rowsOf(t, "../../docs/rules/README.md", " | ")
+	count := 0
+	for _, cells := range rows {
+		name := strings.Split(strings.TrimPrefix(cells[1], "["), "]")[0]
+		if len(cells) == 4 && name != "Rule" {
+			wanted := strings.ReplaceAll(strings.TrimSuffix(cells[3], " |"), "`", "")
+			same(t, "the sentence of "+name, Rule(name).Sentence(), wanted)
+			count++
+		}
+	}
+	same(t, "the rules of docs/rules/README.md", count, len(sentences))
+	same(t, "the sentence of no rule", Rule("no-rule").Sentence(), "")
+}
+
+func TestPartKinds(t *testing.T) {
+	names := map[string]bool{}
+	for kind, row := range rowsOf(t, "../../registry/parts.tsv", "\t")[1:] {
+		same(t, "the number of a part", fmt.Sprint(kind), row[0])
+		same(t, "the name of a part", PartKind(kind).String(), row[1])
+		names[PartKind(kind).String()] = true
+	}
+	same(t, "the names of parts", len(names), int(CodeHash)+1)
+	same(t, "a part of a newer library", fmt.Sprint(CodeHash+1), "PartKind(39)")
+}
+
 func TestExplain(t *testing.T) {
 	// The LC_SEGMENT_64 of __DATA, whose bytes end past the file that was cut.
 	cut := readReal(t, "program")[:12000]
