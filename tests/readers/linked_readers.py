@@ -354,8 +354,9 @@ def last_bound_name(image: Any, address: int) -> bytes:
     return last(image.linked.slots[address]).name
 
 
-def indirect_name(image: Any, address: int, is_resolved: bool) -> object:
-    """The name of the symbol in the entry of a pointer. A local symbol, or one without a name, is no other image's."""
+def name_by_indirect_entry(image: Any, address: int) -> object:
+    """As a disassembler that shows the name for which the symbol in the entry of a pointer stands: its own, or for an
+    alias that of the other symbol. A local symbol, or one without a name, is no other image's."""
     section = next((it for it in image.sections if it.flags & SECTION_TYPE in POINTER_SECTIONS
                     and it.addr <= address < it.addr + it.size), None)
     table = image.image.only(LC_DYSYMTAB)
@@ -366,18 +367,9 @@ def indirect_name(image: Any, address: int, is_resolved: bool) -> object:
     if entry & (INDIRECT_SYMBOL_LOCAL | INDIRECT_SYMBOL_ABS) or number_of >= table.nindirectsyms:
         return None
     symbol = image.linked.symbols[entry]
-    own = image.linked.string(symbol.n_value if is_resolved and symbol.n_type & N_TYPE == N_INDR else symbol.n_strx)
-    return own if symbol.is_external and symbol.n_strx else (LOCAL, own)
-
-
-def name_by_indirect_entry(image: Any, address: int) -> object:
-    """As a disassembler."""
-    return indirect_name(image, address, False)
-
-
-def other_name_by_indirect_entry(image: Any, address: int) -> object:
-    """As a disassembler that shows the symbol for which one stands."""
-    return indirect_name(image, address, True)
+    start = symbol.n_value if symbol.n_type & N_TYPE == N_INDR else symbol.n_strx
+    name = image.linked.string(start)
+    return name if symbol.is_external and symbol.n_strx and start else (LOCAL, name)
 
 
 def first_addend(image: Any, address: int) -> Optional[int]:

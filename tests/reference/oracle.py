@@ -2267,18 +2267,24 @@ def indirect_pointers(image):
                 yield SimpleNamespace(segment=section.segment.index, offset=start + k * POINTER_SIZE, place=place,
                                       entry=int.from_bytes(image.data[place:place + 4], "little"))
 
+def name_it_stands_for(image, symbol):
+    """The own name of an external symbol, or of an alias the string that begins at its n_value; or None without one."""
+    if not is_external(symbol) or symbol.n_strx == 0:
+        return None
+    if type_of(symbol) != N_INDR:
+        return symbol_string(image, symbol.n_strx)
+    begins = symbol.n_value != 0 and image.data[image.only(LC_SYMTAB).stroff + symbol.n_value - 1] == 0
+    return symbol_string(image, symbol.n_value) if begins else None
+
 def indirect_name(image):
-    """The pointer is bound, and its entry is the index of a symbol that is not external, has no name or another one, or
-    is another name of a symbol."""
+    """The pointer is bound, and its entry is the index of a symbol that stands for another name or for none."""
     names = {}
     for bind in [*binds(image), *chain_binds(image)]:
         names.setdefault((bind.segment, bind.offset), set()).add(bind.name)
     for pointer in indirect_pointers(image):
         bound = names.get((pointer.segment, pointer.offset))
         if bound and pointer.entry & (INDIRECT_SYMBOL_LOCAL | INDIRECT_SYMBOL_ABS) == 0:
-            symbol = image.symbols[pointer.entry]
-            has_own_name = is_external(symbol) and type_of(symbol) != N_INDR and symbol.n_strx != 0
-            if not has_own_name or bound != {symbol_string(image, symbol.n_strx)}:
+            if bound != {name_it_stands_for(image, image.symbols[pointer.entry])}:
                 yield pointer.place
 
 def libraries_of_names(image):
