@@ -5,8 +5,7 @@ use super::same;
 use crate::doubles::{CountingReader, CountingWriter, Fault};
 use crate::notation::{BARE_HEADER, BARE_LAYOUT, executable};
 use macho_program::Found;
-use macho_report::{Outcome, RunFault, WhereOutcome, run, run_where};
-use macho_text::{FromRead, FromWrite};
+use macho_report::{FromRead, FromWrite, Outcome, RunFault, WhereOutcome, run, run_where};
 use std::alloc::Global;
 use std::process::Abort;
 

@@ -7,8 +7,9 @@ use crate::doubles::slow::SlowReader;
 use crate::doubles::{CountingReader, CountingWriter, Fault};
 use crate::notation::{BARE_HEADER, BARE_LAYOUT};
 use macho_program::{MachoCheck, Open, exit_code, run_program};
+use macho_report::{Failed, FromRead, FromWrite, Input, Output};
+use macho_text::Flush;
 use macho_text::transfer::{ReadFault, read_all};
-use macho_text::{Failed, Flush, FromRead, FromWrite, Input, Output};
 use std::alloc::{AllocError, Global};
 use std::process::{Abort, ExitCode};
 

@@ -12,10 +12,8 @@ mod spans;
 
 use fault::{Fault, status};
 use image::Mapper;
-use macho_lines::write_break;
-use macho_report::{RunFault, run, run_where};
+use macho_report::{FromRead, FromWrite, RunFault, run, run_where, write_break};
 use macho_text::transfer::read_all;
-use macho_text::{FromRead, FromWrite};
 use std::alloc::Global;
 use std::env::Args;
 

@@ -2,7 +2,7 @@
 
 ghost use Rattle.std.specs.Prelude.{Some};
 
-use macho_text::{Failed, Input};
+use macho_report::{Failed, Input};
 
 /// An input over bytes in memory. It counts its reads, and may fail at one.
 #[derive(Drop)]
