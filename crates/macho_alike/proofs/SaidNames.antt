@@ -1,5 +1,5 @@
 -- What is said of indirect entries, as binds: two of them clash where the rule is broken.
-use Rattle.std.proofs.Common.{◌≡◌, ◌↔◌, ◌⊎◌, ◌∙◌, ℕ, zero, suc, ◌+◌, ◌*◌, ◌/◌, ◌^◌, ◌≤◌, ◌<◌, ◌==◌, Bool, false, List, [], ◌∷◌, ◌++◌, get_or, length, map, take, drop, slice_get, Option, Some, None, Contains, Any, refl, sym, ap, subst, arith, inl, inr}
+use Rattle.std.proofs.Common.{◌≡◌, ◌↔◌, ◌⊎◌, ◌∙◌, ℕ, zero, suc, ◌+◌, ◌-◌, ◌*◌, ◌/◌, ◌^◌, ◌≤◌, ◌<◌, ◌==◌, Bool, false, List, [], ◌∷◌, ◌++◌, get_or, length, map, take, drop, slice_get, Option, Some, None, Contains, Any, refl, sym, ap, subst, arith, inl, inr}
 use Rattle.std.specs.Prelude.{pos, nat_lt, IsSomeAnd, IsPermutation, bit_and}
 use Rattle.std.specs.Bool.{Decides}
 use Rattle.std.specs.List.{position_or_len}
@@ -11,9 +11,10 @@ use Rattle.std.proofs.lemmas.Slice.Eq.{bytes_eq-Decides}
 use Rattle.macho_fields.specs.Field.{part, string_from}
 use Rattle.macho_fields.specs.Image.{commands_of}
 use Rattle.macho_fields.specs.Segment.{vmaddr, section_address, section_size}
-use Rattle.macho_fields.specs.Symbol.{stroff, IsSymbolIndex}
+use Rattle.macho_fields.specs.Symbol.{stroff, strsize, IsSymbolIndex}
 use Rattle.macho_fields.specs.declared.header.loader.TheConstants as loader
 use Rattle.macho_fields.specs.declared.header.nlist.TheConstants.{N_EXT, N_STAB, N_TYPE, N_INDR}
+use Rattle.macho_fields.proofs.Decided.{zero_or_none}
 use Rattle.macho_fields.proofs.Lists.{contains_mapped}
 use Rattle.macho_fields.proofs.Options.{some_of, of_some, some_has}
 use Rattle.macho_image.specs.Command.{first_with_cmd}
@@ -25,7 +26,7 @@ use Rattle.macho_spans.specs.Span.{end_of}
 use Rattle.macho_alike.specs.BindLists.{IsInside, AreInside, ClashAt}
 use Rattle.macho_alike.specs.Binds.{Clash}
 use Rattle.macho_alike.specs.Bounds.{IsSymbolName, IsSaidOf, IsSaidAt, IsSaidBy, span_of, mark_of, bind_of, SaysOtherwise}
-use Rattle.macho_alike.specs.Indirects.{IsBound, HasPointers, IsPointerOf, HasEntry, entry_with, HasOwnName, IsNameStart, IsNameOf, IsOfAnotherName, BreaksIndirectName, symbols_in}
+use Rattle.macho_alike.specs.Indirects.{IsBound, HasPointers, IsPointerOf, HasEntry, entry_with, name_offset, StandsForName, BeginsName, HasNameAt, IsNameStart, IsNameOf, IsOfAnotherName, BreaksIndirectName, symbols_in}
 use Rattle.macho_alike.specs.declared.binds.Bind.{Bind}
 use Rattle.macho_alike.specs.declared.binds.Compared.{Compared}
 use Rattle.macho_alike.specs.declared.binds.Compared.TheVariants as compared
@@ -44,16 +45,25 @@ decided b P decides = elim (cases_Bool b) [ inl t ↦ inl (decides.0 t) | inr f 
 pub same_text : (xs ys : List ℕ) → (xs ≡ ys) ⊎ (¬ (xs ≡ ys))
 same_text xs ys = decided _ _ (bytes_eq-Decides xs ys)
 
-own_name : (symbol : Symbol) → HasOwnName symbol ⊎ (¬ HasOwnName symbol)
-own_name symbol = elim (cases_eq (bit_and symbol.kind N_STAB) 0) [
-  | inr stab ↦ inr (λ own. stab own.0.0)
+has_name : (size : ℕ) (symbol : Symbol) → StandsForName size symbol ⊎ (¬ StandsForName size symbol)
+has_name size symbol = elim (cases_eq (bit_and symbol.kind N_STAB) 0) [
+  | inr stab ↦ inr (λ named. stab named.0.0)
   | inl plain ↦ elim (cases_eq (bit_and symbol.kind N_EXT) 0) [
-    | inl local ↦ inr (λ own. own.0.1 local)
-    | inr external ↦ elim (cases_eq (bit_and symbol.kind N_TYPE) N_INDR) [
-      | inl indirect ↦ inr (λ own. own.1 indirect)
-      | inr other ↦ elim (cases_eq symbol.strx 0) [ inl none ↦ inr (λ own. own.2 none) | inr some ↦ inl ((plain, external), other, some) ]
+    | inl local ↦ inr (λ named. named.0.1 local)
+    | inr external ↦ elim (cases_eq symbol.strx 0) [
+      | inl none ↦ inr (λ named. named.1 none)
+      | inr some ↦ elim (cases_eq (name_offset symbol) 0) [
+        | inl nowhere ↦ inr (λ named. named.2 nowhere)
+        | inr begins ↦ elim (cases_lt (name_offset symbol) size) [ inl less ↦ inl ((plain, external), some, begins, less) | inr past ↦ inr (λ named. let less = named.3 in absurd (omega (arith, less, past))) ]
+      ]
     ]
   ]
+]
+
+begins_name : (image : List ℕ) (symbol : Symbol) (start : ℕ) → BeginsName image symbol start ⊎ (¬ BeginsName image symbol start)
+begins_name image symbol start = elim (cases_eq (bit_and symbol.kind N_TYPE) N_INDR) [
+  | inr own ↦ inl (inl own)
+  | inl alias ↦ elim (zero_or_none image (start - 1) start) [ inl zero ↦ inl (inr zero) | inr none ↦ inr (λ begins. elim begins [ inl own ↦ own alias | inr zero ↦ none zero ]) ]
 ]
 
 -- Bytes of names
@@ -102,24 +112,30 @@ module _ (image : List ℕ) where
 
       of_symtab : Option ℕ → ℕ → Type 0
       of_symtab found start =
-          IsSomeAnd found (λ symtab. IsSomeAnd (slice_get (symbols_in image) value) (λ symbol. HasOwnName symbol × (start ≡ stroff image symtab + symbol.strx)))
+          IsSomeAnd found (λ symtab. IsSomeAnd (slice_get (symbols_in image) value) (λ symbol. HasNameAt image symtab symbol start))
 
       of_symbol : ℕ → Option Symbol → ℕ → Type 0
-      of_symbol symtab found start = IsSomeAnd found (λ symbol. HasOwnName symbol × (start ≡ stroff image symtab + symbol.strx))
+      of_symbol symtab found start = IsSomeAnd found (λ symbol. HasNameAt image symtab symbol start)
 
       by_symbol : (symtab : ℕ) → first_with_cmd image loader.LC_SYMTAB (commands_of image) ≡ Some symtab → (found : Option Symbol) → slice_get (symbols_in image) value ≡ found
           → (name : Option ℕ) × IsSymbolName image value name
       by_symbol symtab first None none = nothing (λ start is. subst (λ (o : Option Symbol). of_symbol symtab o start) none (subst (λ (o : Option ℕ). of_symtab o start) first is))
-      by_symbol symtab first (Some symbol) at = elim (own_name symbol) [
-        | inl own ↦ (
-          Some (stroff image symtab + symbol.strx),
-          λ start. (
-            λ is. let here = subst (λ (o : Option Symbol). of_symbol symtab o start) at (subst (λ (o : Option ℕ). of_symtab o start) first is) in ap Some (sym here.1),
-            λ is. subst (λ (o : Option ℕ). of_symtab o start) (sym first) (subst (λ (o : Option Symbol). of_symbol symtab o start) (sym at) (own, sym (same_Some _ _ is))),
-          ),
-        )
-        | inr not ↦ nothing (λ start is. let here = subst (λ (o : Option Symbol). of_symbol symtab o start) at (subst (λ (o : Option ℕ). of_symtab o start) first is) in not here.0)
+      by_symbol symtab first (Some symbol) at = elim (has_name (strsize image symtab) symbol) [
+        | inl named ↦ elim (begins_name image symbol (stroff image symtab + name_offset symbol)) [
+          | inl begins ↦ (
+            Some (stroff image symtab + name_offset symbol),
+            λ start. (
+              λ is. ap Some (sym (here start is).1),
+              λ is. let same = same_Some _ _ is in subst (λ (o : Option ℕ). of_symtab o start) (sym first) (subst (λ (o : Option Symbol). of_symbol symtab o start) (sym at) (named, sym same, subst (BeginsName image symbol) same begins)),
+            ),
+          )
+          | inr not ↦ nothing (λ start is. not (subst (BeginsName image symbol) (here start is).1 (here start is).2))
+        ]
+        | inr not ↦ nothing (λ start is. not (here start is).0)
       ]
+        where
+          here : (start : ℕ) → IsNameStart image value start → HasNameAt image symtab symbol start
+          here start is = subst (λ (o : Option Symbol). of_symbol symtab o start) at (subst (λ (o : Option ℕ). of_symtab o start) first is)
 
       by_symtab : (found : Option ℕ) → first_with_cmd image loader.LC_SYMTAB (commands_of image) ≡ found → (name : Option ℕ) × IsSymbolName image value name
       by_symtab None none = nothing (λ start is. subst (λ (o : Option ℕ). of_symtab o start) none is)

@@ -1,6 +1,6 @@
 -- What readers answer about a pointer of a section, and that all answers are the same. (mach-o/loader.h: section_64,
 -- dysymtab_command)
-use Rattle.std.specs.Prelude.{◌≡◌, ℕ, ◌+◌, ◌⊎◌, List, slice_get, IsSomeAnd, bit_and}
+use Rattle.std.specs.Prelude.{◌≡◌, ◌≢◌, ℕ, ◌+◌, ◌⊎◌, List, slice_get, IsSomeAnd, bit_and}
 use Rattle.macho_fields.specs.Field.{string_from}
 use Rattle.macho_fields.specs.Image.{commands_of}
 use Rattle.macho_fields.specs.Symbol.{stroff, IsSymbolIndex}
@@ -18,11 +18,11 @@ IsNameByBind image segment offset name =
     (bound : Bound) × IsBound image bound × (bound.segment ≡ segment) × (bound.offset ≡ offset)
     × (name ≡ string_from bound.name image)
 
--- A disassembler follows its indirect entry, if that is neither local nor absolute, and shows the name of the symbol: for
--- one that stands for another (N_INDR), its own or the other one.
+-- A disassembler follows its indirect entry, if that is neither local nor absolute, and shows the name that the symbol
+-- stands for: its own name, or for an alias (N_INDR) the name of the other symbol.
 abbrev pub IsShownName : List ℕ → ℕ → Symbol → List ℕ → Type 0
 IsShownName image symtab symbol name =
-    (name ≡ name_of image symtab symbol)
+    ((bit_and symbol.kind N_TYPE ≢ N_INDR) × (name ≡ name_of image symtab symbol))
     ⊎ ((bit_and symbol.kind N_TYPE ≡ N_INDR) × (name ≡ string_from (stroff image symtab + symbol.value) image))
 
 abbrev pub IsNameOfEntry : List ℕ → ℕ → List ℕ → Type 0

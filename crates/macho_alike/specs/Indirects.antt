@@ -1,12 +1,12 @@
 -- The pointers that fixups bind and that have an entry in the indirect symbol table, and where the entry is of another
 -- name than the bind. A segment and a section are named by the places of their structures.
 -- (mach-o/loader.h: section_64, dysymtab_command, dyld_info_command; mach-o/fixup-chains.h)
-use Rattle.std.specs.Prelude.{◌≡◌, ◌≢◌, ℕ, ◌+◌, ◌*◌, ◌/◌, ◌%◌, ◌^◌, ◌<◌, ◌==◌, ◌⊎◌, List, [], ◌∷◌, length, map, slice_get, Any, Bool, true, Option, Some, IsSome, IsSomeAnd, bit_and}
+use Rattle.std.specs.Prelude.{◌≡◌, ◌≢◌, ℕ, ◌+◌, ◌-◌, ◌*◌, ◌/◌, ◌%◌, ◌^◌, ◌<◌, ◌==◌, ◌⊎◌, List, [], ◌∷◌, length, map, slice_get, Any, Bool, true, Option, Some, IsSome, IsSomeAnd, bit_and, if◌then◌else◌}
 use Rattle.std.specs.List.{list_any}
-use Rattle.macho_fields.specs.Field.{string_from}
+use Rattle.macho_fields.specs.Field.{string_from, HasZero}
 use Rattle.macho_fields.specs.Image.{commands_of}
 use Rattle.macho_fields.specs.Segment.{all_segments, vmaddr, section_address, section_size, section_flags}
-use Rattle.macho_fields.specs.Symbol.{stroff, IsSymbolIndex}
+use Rattle.macho_fields.specs.Symbol.{stroff, strsize, IsSymbolIndex}
 use Rattle.macho_fields.specs.declared.header.loader.TheConstants as loader
 use Rattle.macho_fields.specs.declared.header.nlist.TheConstants.{N_TYPE, N_INDR}
 use Rattle.macho_image.specs.Command.{first_with_cmd}
@@ -94,16 +94,33 @@ entry_with image index = slice_get (map (indirect_at image) (indirects_of image 
 abbrev pub symbols_in : List ℕ → List Symbol
 symbols_in image = map (symbol_at image) (symbols_of image (commands_of image))
 
--- it is external, does not stand for another symbol, and has a name
-abbrev pub HasOwnName : Symbol → Type 0
-HasOwnName symbol = IsExternal symbol.kind × (bit_and symbol.kind N_TYPE ≢ N_INDR) × (symbol.strx ≢ 0)
+-- The name that a symbol stands for begins there in the strings: its own name, or for an alias (N_INDR) the name of the
+-- other symbol. An alias is followed once, by name. Whether the other symbol is an alias too is not asked: it stands for
+-- a third name, and this symbol does not.
+abbrev pub name_offset : Symbol → ℕ
+name_offset symbol = if bit_and symbol.kind N_TYPE == N_INDR then symbol.value else symbol.strx
 
--- the symbol with an index has its own name, which begins at a place
+-- it is external and has a name, and it stands for a name in strings of a size
+abbrev pub StandsForName : ℕ → Symbol → Type 0
+StandsForName size symbol =
+    IsExternal symbol.kind × (symbol.strx ≢ 0) × (name_offset symbol ≢ 0) × (name_offset symbol < size)
+
+-- The name for which an alias stands begins where another string ends. So two of them share bytes only if they are one,
+-- and all together have at most the bytes of the strings. (Own names are counted by symbol-total.)
+abbrev pub BeginsName : List ℕ → Symbol → ℕ → Type 0
+BeginsName image symbol start = (bit_and symbol.kind N_TYPE ≢ N_INDR) ⊎ HasZero image (start - 1) start
+
+-- it stands for the name that begins at a place
+abbrev pub HasNameAt : List ℕ → ℕ → Symbol → ℕ → Type 0
+HasNameAt image symtab symbol start =
+    StandsForName (strsize image symtab) symbol × (start ≡ stroff image symtab + name_offset symbol)
+    × BeginsName image symbol start
+
+-- the symbol with an index does
 abbrev pub IsNameStart : List ℕ → ℕ → ℕ → Type 0
 IsNameStart image index start =
     IsSomeAnd (first_with_cmd image loader.LC_SYMTAB (commands_of image)) (λ symtab.
-    IsSomeAnd (slice_get (symbols_in image) index) (λ symbol.
-    HasOwnName symbol × (start ≡ stroff image symtab + symbol.strx)))
+    IsSomeAnd (slice_get (symbols_in image) index) (λ symbol. HasNameAt image symtab symbol start))
 
 -- and this is its name
 abbrev pub IsNameOf : List ℕ → ℕ → List ℕ → Type 0

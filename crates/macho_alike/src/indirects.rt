@@ -11,7 +11,7 @@ ghost use Rattle.macho_image.specs.Segment.{sections_of};
 ghost use Rattle.macho_chains.specs.ChainPointers.{BreaksChainSlot};
 ghost use Rattle.macho_chains.specs.Chains.{BadStarts, InChains, InPointers};
 ghost use Rattle.macho_alike.specs.Bounds.{WereGathered, location, IsBetween, IsSaidAt, IsSaidFor, IsSaidBy, bind_of, span_of, SaysOtherwise, IsOneName, AgreesWith};
-ghost use Rattle.macho_alike.specs.Indirects.{HasPointers, IsPointerOf, HasOwnName, IsNameStart, BreaksIndirectName, HasDysymtab};
+ghost use Rattle.macho_alike.specs.Indirects.{HasPointers, IsPointerOf, name_offset, StandsForName, BeginsName, IsNameStart, BreaksIndirectName, HasDysymtab};
 ghost use Rattle.macho_alike.specs.declared.bounds.Bound.{Bound};
 ghost use Rattle.macho_alike.specs.declared.indirects.Said.{Said};
 
@@ -30,8 +30,8 @@ use macho_tables::limits::POINTER_SIZE;
 use std::alloc::{AllocError, Global};
 
 /// The least place of an indirect entry of a bound pointer that is the index of a symbol with another name than the bind,
-/// or of a symbol that is not external, has no name, or stands for another one (`N_INDR`). The image breaks no rule of
-/// the layout, and its chains neither `chain-starts` nor `chain-slot`.
+/// or of a symbol that is not external or has no name. An alias (`N_INDR`) has the name at its `n_value`, if a string
+/// begins there. The image breaks no rule of the layout, and its chains neither `chain-starts` nor `chain-slot`.
 ///
 /// Each bound pointer with an entry says a name of the entry, and the symbol of the entry says one. They are compared by
 /// their bytes, up to as many bytes as the image has. Past that, they are compared like names of two binds of one slot:
@@ -73,7 +73,7 @@ struct Said {
     place: u64,
     // The index of the entry.
     index: u32,
-    // Where the name begins in the image. It is `None` if the symbol has no name of its own that others see.
+    // Where the name begins in the image. It is `None` if the symbol stands for no name that others see.
     name: Option<u64>,
 }
 
@@ -241,7 +241,7 @@ fn add_entry(image: &Image, index: u32, name: u64, said: &mut Vec<Said>) -> Resu
     Ok(())
 }
 
-// Where the name begins of the symbol with this index, if it is external and has its own name.
+// Where the name begins that the symbol with this index stands for, if it is external and has a name.
 fn name_start(image: &Image, index: u32) -> Option<u64>
     requires { NothingBreaks (Breaks image.now None) }
     ensures { (start : ℕ) → IsNameStart image.now index start ↔ (result ≡ Some start) }
@@ -250,17 +250,45 @@ fn name_start(image: &Image, index: u32) -> Option<u64>
     prove!(image.bytes().len() <= u64::MAX);
     let symtab = image.symtab()?;
     let symbol = image.symbol(u64::from(index))?;
-    if !has_own_name(symbol) {
+    if !stands_for_name(symbol, symtab.strsize) {
         return None;
     }
-    Some(symtab.stroff + u64::from(symbol.strx))
+    let start = symtab.stroff + name_offset(symbol);
+    if !begins_name(image.bytes(), symbol, start) {
+        return None;
+    }
+    Some(start)
 }
 
-// Whether the symbol is external, has a name, and does not stand for another one.
-fn has_own_name(symbol: Symbol) -> bool
-    ensures { IsTrue result ↔ HasOwnName symbol }
+// Whether the symbol is external and has a name, and stands for a name in strings of this size.
+fn stands_for_name(symbol: Symbol, size: u64) -> bool
+    ensures { IsTrue result ↔ StandsForName size symbol }
 {
-    is_external(symbol.kind) && symbol.kind & N_TYPE != N_INDR && symbol.strx != 0
+    let offset = name_offset(symbol);
+    is_external(symbol.kind) && symbol.strx != 0 && offset != 0 && offset < size
+}
+
+// Whether the name that begins there is the symbol's own, or begins where another string ends.
+fn begins_name(image: Bytes, symbol: Symbol, start: u64) -> bool
+    requires { 0 < start }
+    ensures { IsTrue result ↔ BeginsName (bytes_of image.entry) symbol start }
+{
+    let before = Span {
+        start: start - 1,
+        len: 1,
+    };
+    symbol.kind & N_TYPE != N_INDR || image.first_zero(before).is_some()
+}
+
+// Where the name begins in the strings that the symbol stands for: its own, or for an alias the other symbol's.
+fn name_offset(symbol: Symbol) -> u64
+    ensures { result ≡ name_offset symbol }
+{
+    if symbol.kind & N_TYPE == N_INDR {
+        symbol.value
+    } else {
+        u64::from(symbol.strx)
+    }
 }
 
 // The least place of an entry that has two names. Mostly a few bytes of the names show that each entry has one name.
