@@ -244,18 +244,22 @@ def indirect_name(it: Teller) -> Story:
     linked = Linked(it)
     fields = linked.symbol(it.limit)
     kind, strx = number_in(fields, "nlist_64", "n_type"), number_in(fields, "nlist_64", "n_strx")
-    own = linked.name_at(strx) if strx else b""
-    found = _bound_of(linked, it.value, own)
+    start = number_in(fields, "nlist_64", "n_value") if kind & N_TYPE == N_INDR else strx
+    shown = linked.name_at(start) if start else b""
+    found = _bound_of(linked, it.value, shown)
     bound = "another name" if found is None else _name(found)
-    symbol = f"symbol {it.limit}" + (f" ({_text(own)})" if strx else "")
+    symbol = f"symbol {it.limit}" + (f" ({_text(linked.name_at(strx))})" if strx else "")
     if kind & N_STAB or not kind & N_EXT:
         what, sees = ", which is not external", f"a symbol of the image itself, {symbol}"
-    elif kind & N_TYPE == N_INDR:
-        what, sees = ", which stands in for another name", f"{symbol}, or the name that it stands in for"
     elif not strx:
         what, sees = ", which has no name", "no name"
+    elif kind & N_TYPE != N_INDR:
+        what, sees = "", _name(shown)
+    elif not start or linked.name_at(start - 1):
+        what = f", whose n_value {start} is not where a string begins"
+        sees = "a part of another name" if start else "no name"
     else:
-        what, sees = "", _name(own)
+        what, sees = f", which stands in for {_name(shown)}", _name(shown)
     return it.story(f"{it.at} is of {symbol}{what}, and the fixups bind its pointer to {bound}.", "index of the entry",
                     "index of the symbol").read_as("a disassembler", sees).read_as("a loader", bound)
 
