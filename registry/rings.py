@@ -12,7 +12,7 @@ LOOKS = {
     "strict": "every byte: it belongs to one part of the file, or is zero or padding of code",
     "linked": "what a loader follows: fixups, exports, initializers, threads, symbols, relocations",
     "unambiguous": "what readers choose: slices, pages, names, addresses, load commands and the entry point",
-    "sealed": "the code signature: the hash of every page, and every byte of the signature",
+    "sealed": "the code signature: the hash of every page, and the bytes between its blobs and after it",
 }
 WIDTH, EDGE = 840, 8
 # How far a ring is inside the ring around it: at the top, where its text is, at the sides and at the bottom.

@@ -509,7 +509,7 @@ def verify(data: Data, profile: str = DEFAULT) -> File:
     "strict": bytes that no header accounts for, or that two parts share (docs/rules/strict.md)
     "linked": fixups, exports, functions, data in code, the structure of the code signature, symbols, relocations,
     threads, and what all other commands hold (docs/rules/linked.md)
-    "unambiguous": whether readers that look in different ways see one program (docs/rules/unambiguous.md)
+    "unambiguous": whether readers that look in the ways that we know see one program (docs/rules/unambiguous.md)
     "sealed": whether each image has a code signature, whose hashes are those of the bytes, but not who signed
     (docs/rules/sealed.md)
 

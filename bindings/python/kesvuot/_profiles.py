@@ -20,7 +20,7 @@ PROFILES: Dict[str, Profile] = {
     "strict": Profile(2, "bytes that no header accounts for, or that two parts share", "rules/strict.md#not-judged"),
     "linked": Profile(3, "where linked data lies, and what it and the other commands say",
                       "rules/linked.md#not-judged"),
-    "unambiguous": Profile(4, "whether readers that look in different ways see one file, one map, one meaning of a name and one identity",
+    "unambiguous": Profile(4, "whether readers that look in the ways that we know see one file, one map, one meaning of a name and one identity",
                            "rules/unambiguous.md#what-it-does-not-say"),
     "sealed": Profile(5, "whether each image has a code signature, whose hashes are those of the bytes",
                       "rules/sealed.md#what-it-does-not-say"),
