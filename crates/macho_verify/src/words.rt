@@ -25,8 +25,8 @@ otherwise the first rule that the file breaks. FILE - is standard input.
 
   layout       a loader that follows the headers stays inside the file
   strict       layout, and every byte that is not zero has one owner
-  linked       strict, and a loader that applies fixups and looks up exports stays inside
-  unambiguous  linked, and readers that look in different ways see one program
+  linked       strict, and a loader that follows opcodes, chains and exports stays inside
+  unambiguous  linked, and readers that look in the ways that we know see one program
   sealed       unambiguous, and the hashes of the code signature are those of the bytes
 
 Exit status: 0 accepted, 1 refused, 2 usage, 3 a read or a write failed, 4 out of memory.
