@@ -89,11 +89,11 @@ enum {
                                 data is in code; how a code signature is built; what symbols, stubs and relocations
                                 refer to; where threads and initializers begin; and what all other commands of loader.h
                                 hold. rules/linked.md explains the rules */
-    KESVUOT_UNAMBIGUOUS = 4, /* readers that choose slices, segments, sections, load commands and entry points in
-                                different ways choose the same ones, and a kernel that maps whole pages shows the bytes
-                                that the headers describe. They find one meaning of a name, one bind of a location, one
-                                library of a symbol, and one identity in a signature. rules/unambiguous.md explains the
-                                rules */
+    KESVUOT_UNAMBIGUOUS = 4, /* readers that choose slices, segments, sections, load commands and entry points in the
+                                ways that the page of the rules lists choose the same ones, and a kernel that maps whole
+                                pages shows the bytes that the headers describe. They find one meaning of a name that
+                                the image defines, one bind of a location, one library of an undefined symbol, and one
+                                identity in a signature. rules/unambiguous.md explains the rules */
     KESVUOT_SEALED = 5       /* each image has a code signature; each code directory has the hashes of all bytes before
                                 the signature and of the blobs in special slots; no byte of the signature can be
                                 executed; and each nonzero byte from the signature on is in the signature's header, its

@@ -34,10 +34,10 @@ pub enum Profile {
     /// what symbols, stubs and relocations refer to; where threads and initializers begin; and what all other commands
     /// of `loader.h` hold. `docs/rules/linked.md` explains the rules.
     Linked = 3,
-    /// Readers that choose slices, segments, sections, load commands and entry points in different ways choose the same
-    /// ones, and a kernel that maps whole pages shows the bytes that the headers describe. They find one meaning of a
-    /// name, one bind of a location, one library of a symbol, and one identity in a signature.
-    /// `docs/rules/unambiguous.md` explains the rules.
+    /// Readers that choose slices, segments, sections, load commands and entry points in the ways that the page of the
+    /// rules lists choose the same ones, and a kernel that maps whole pages shows the bytes that the headers describe.
+    /// They find one meaning of a name that the image defines, one bind of a location, one library of an undefined
+    /// symbol, and one identity in a signature. `docs/rules/unambiguous.md` explains the rules.
     Unambiguous = 4,
     /// Each image has a code signature; each code directory has the hashes of all bytes before the signature and of the
     /// blobs in special slots; no byte of the signature can be executed; and each nonzero byte from the signature on is
