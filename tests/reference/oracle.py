@@ -57,6 +57,8 @@ STRUCTURES = {
     "encryption_info_command_64": "u32 cmd  u32 cmdsize  u32 cryptoff  u32 cryptsize  u32 cryptid  u32 pad",
     "note_command": "u32 cmd  u32 cmdsize  16bytes data_owner  u64 offset  u64 size",
     "build_version_command": "u32 cmd  u32 cmdsize  u32 platform  u32 minos  u32 sdk  u32 ntools",
+    # `ntools` records follow a build_version_command.
+    "build_tool_version": "u32 tool  u32 version",
     "entry_point_command": "u32 cmd  u32 cmdsize  u64 entryoff  u64 stacksize",
     "symseg_command": "u32 cmd  u32 cmdsize  u32 offset  u32 size",
     "fvmlib_command": "u32 cmd  u32 cmdsize  u32 name  u32 minor_version  u32 header_addr",
