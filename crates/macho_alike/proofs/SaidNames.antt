@@ -63,7 +63,7 @@ has_name size symbol = elim (cases_eq (bit_and symbol.kind N_STAB) 0) [
 begins_name : (image : List ℕ) (symbol : Symbol) (start : ℕ) → BeginsName image symbol start ⊎ (¬ BeginsName image symbol start)
 begins_name image symbol start = elim (cases_eq (bit_and symbol.kind N_TYPE) N_INDR) [
   | inr own ↦ inl (inl own)
-  | inl alias ↦ elim (zero_or_none image (start - 1) start) [ inl zero ↦ inl (inr zero) | inr none ↦ inr (λ begins. elim begins [ inl own ↦ own alias | inr zero ↦ none zero ]) ]
+  | inl alias ↦ elim (zero_or_none image (start - 1) start) [ inl before ↦ inl (inr before) | inr none ↦ inr (λ begins. elim begins [ inl own ↦ own alias | inr before ↦ none before ]) ]
 ]
 
 -- Bytes of names
