@@ -1,8 +1,6 @@
 #![tactic(auto)]
-//! The unambiguous profile, of a file that breaks no rule of the linked one: readers that choose slices, segments,
-//! sections, load commands and entry points in different ways choose the same ones.
-//!
-//! It does not say so of names of symbols, of exports and binds, and of what a code signature says.
+//! The unambiguous profile, of a file that breaks no rule of the linked one: the models of readers in `macho_readers`,
+//! `macho_alike` and `macho_identity` give the same answers. A reader that looks in another way may give another one.
 
 mod check;
 pub mod law;

@@ -25,9 +25,9 @@ use std::alloc::Global;
 /// imports, and pending nodes of the export trie. Bytes under zero-fill sections are read once.
 pub fn verify_unambiguous<'a>(alloc: Global, file: &'a [u8]) -> Result<Verified<'a>, Refusal>
     // It accepts only a file that `verify_linked` accepts and that breaks no unambiguous rule: so readers that choose
-    // between slices, segments, sections, commands and entries in different ways choose the same ones, and find the same
-    // binds, symbols, exports and signature. It refuses only a file that breaks a rule of the four profiles, unless
-    // memory runs out.
+    // between slices, segments, sections, commands and entries in the ways of the models choose the same ones, and find
+    // the same binds, symbols, exports and signature. It refuses only a file that breaks a rule of the four profiles,
+    // unless memory runs out.
     ensures accepted { OnOk result (KeepsUnambiguous file.now) }
     ensures refused { IfErr result (IsUnambiguousRefusal file.now) }
     ensures file { IfOk result (λ verified. verified ≡ file.now) }
