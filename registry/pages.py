@@ -1,18 +1,16 @@
-"""Tables of docs/audit that are counted or collected: how many lines of definitions there are to read, the mutants by
-the file that they change, and what each script of tests/ says of itself."""
+"""Tables of docs/audit that are counted or collected: how many lines of definitions there are to read, and what each
+script of tests/ says of itself."""
 
 from __future__ import annotations
 
 import re
 import sys
-from itertools import groupby
 from pathlib import Path
-from typing import List, Tuple
+from typing import List
 
 TOP = Path(__file__).resolve().parent.parent
 sys.path.insert(0, str(TOP / "tests"))
 from support import definitions
-from support.mutants import Mutant, read_mutants
 from support.scripts import SCRIPTS
 
 # Scripts that the gate runs first, or that it leaves out.
@@ -31,23 +29,6 @@ def reading(_: str) -> List[str]:
         lines = sum(map(lines_of, files))
         total += lines
         rows.append(f"| {group} | {len(files)} | {lines:,} | {total:,} |")
-    return rows
-
-
-def mutant_rows(_: str) -> List[str]:
-    """The mutants by the file that they change. The first name of a cell has the crate."""
-    def file_of(mutant: Mutant) -> Tuple[str, str]:
-        return mutant.crate, re.search("^file: (.*)$", mutant.text, re.MULTILINE)[1]
-
-    def cell(mutants: List[Mutant]) -> str:
-        names = [str(mutant) if number == 0 else mutant.name for number, mutant in enumerate(mutants)]
-        return ", ".join(f"`{name}`" for name in names)
-
-    rows = ["| File | Mutants that the gate tries | Other mutants |", "|---|---|---|"]
-    for (_, file), members in groupby(sorted(read_mutants(), key=file_of), file_of):
-        mutants = list(members)
-        gated, others = ([each for each in mutants if each.is_gated == is_gated] for is_gated in (True, False))
-        rows.append(f"| `{file}` | {cell(gated)} | {cell(others)} |")
     return rows
 
 
