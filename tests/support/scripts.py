@@ -24,8 +24,8 @@ from .programs import build_trials
 EARLY_SCRIPTS = "floor dyld counts agreed".split()
 PROGRAM_SCRIPTS = ("mutants program command refusals oracle strict linked unambiguous other_readers sealed claims sizes"
                    " limits vectors packed_vectors edited").split()
-LIBRARY_SCRIPTS = ("cost rebuild library python cluster tool stores policies archives map explain slots code exports"
-                   " examples rust go fuzz recipes install").split()
+LIBRARY_SCRIPTS = ("cost rebuild library python cluster tool gate stores policies archives map explain slots code"
+                   " exports examples rust go fuzz recipes install").split()
 SCRIPTS = [*EARLY_SCRIPTS, *PROGRAM_SCRIPTS, *LIBRARY_SCRIPTS]
 # What needs neither a proof nor the library. The first one is no script of the gate, which runs what it has proved.
 QUICK_SCRIPTS = ["trial_runs", "command", *EARLY_SCRIPTS, "edited"]

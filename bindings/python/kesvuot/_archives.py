@@ -18,7 +18,8 @@ from typing import Callable, DefaultDict, Iterator, NamedTuple, Optional, Tuple,
 
 from ._paths import SEPARATOR
 from ._reading import (
-    JUDGED_MAGICS, LIMIT, MACH_O_MAGICS, PIECE_SIZE, Stamp, Stamps, Unread, read_given, read_head, stamp_of, too_long)
+    JUDGED_MAGICS, LIMIT, MACH_O_MAGICS, PIECE_SIZE, Stamp, Stamps, Unread, is_stub, read_given, read_head, stamp_of,
+    too_long)
 from ._reading import Contents as FileContents
 from ._streams import (
     BZIP2, GZIP, MOST_SIZE, STORED, XZ, Allowance, File, Flow, Memory, Packed, Source, Spent, Stream, Unpacking, Window,
@@ -57,8 +58,8 @@ Contents = Union[bytes, bytearray, Place, Begun]
 
 
 class Member(NamedTuple):
-    """A member: a Mach-O file with its contents; what is compressed, of this kind; or what cannot be read, by a fault.
-    Anything else is no Mach-O."""
+    """A member: a Mach-O file with its contents, or another one that is judged all the same; what is compressed, of this
+    kind; or what cannot be read, by a fault. Anything else is no Mach-O."""
 
     path: str
     contents: Optional[Contents] = None
@@ -67,11 +68,13 @@ class Member(NamedTuple):
 
 
 class Wanted(NamedTuple):
-    """Which members the user wants: by the path of each, and of the folders in the archive that it is in. And whether
-    all their bytes are wanted, also where the first ones decide."""
+    """Which members the user wants: by the path of each, and of the folders in the archive that it is in. Which of them
+    are named, so that they are judged whatever they are. And whether all their bytes are wanted, also where the first
+    ones decide."""
 
     is_left_out: Callable[[str], bool]
     is_asked_for: Callable[[str], bool]
+    is_named: Callable[[str], bool] = lambda path: False
     has_all_bytes: bool = False
 
 
@@ -118,6 +121,8 @@ class Archive:
         self.file = file
         self.container = container
         self.fault = fault
+        # Whether a member was met that is judged, or cannot be.
+        self.has_image = fault is not None
 
     def members(self, wanted: Wanted, allowance: Allowance) -> Iterator[Member]:
         """The members, in their order, and those of archives among them."""
@@ -127,6 +132,7 @@ class Archive:
             elif self.container:
                 yield from _Walk(self, wanted, allowance).archive(self.container, self.path, 1)
         except Exception as fault:  # pylint: disable=broad-except # one archive without a verdict is not all of them
+            self.has_image = True
             yield Member(self.path, fault=fault)
         finally:
             self.close()
@@ -221,11 +227,24 @@ def _input(allowance: Allowance) -> Union[Archive, Begun, None]:
 
 
 class Entry(NamedTuple):
-    """A member in its archive: what it has, and where it is in a source, if the archive can be read at any offset."""
+    """A member in its archive: what it has, its mode, and where it is in a source, if the archive can be read at any
+    offset."""
 
     stream: Stream
+    mode: int
     source: Optional[Source] = None
     packed: Optional[Packed] = None
+
+    @property
+    def is_judged(self) -> bool:
+        """Whether it is a Mach-O file, or should be one."""
+        head = self.stream.peek(4)
+        return head in MACH_O_MAGICS or (is_stub(head, self.mode) and self.is_regular)
+
+    @property
+    def is_regular(self) -> bool:
+        """Whether it is no link, whose contents are where it leads to."""
+        return stat.S_IFMT(self.mode) in (0, stat.S_IFREG)
 
 
 class _Hashes:
@@ -274,6 +293,7 @@ class _Names:
 class _Walk:
     def __init__(self, archive: Archive, wanted: Wanted, allowance: Allowance) -> None:
         self.path = archive.path
+        self.opened = archive
         self.file = archive.file
         self.stamp = stamp_of(os.fstat(archive.file.descriptor)) if archive.file else NO_STAMP
         self.wanted = wanted
@@ -283,6 +303,7 @@ class _Walk:
         """The members of an archive. `depth` counts it and the archives around it."""
         names = _Names()
         if container.kind not in (ZIP, TAR):
+            self.opened.has_image = True
             yield Member(path, kind=container.kind)
             return
         try:
@@ -292,7 +313,11 @@ class _Walk:
                 # Compressed data is checked at its end.
                 container.stream.drain()
         except FAULTS as fault:
-            yield Member(path, fault=fault)
+            yield self._fault(path, fault)
+
+    def _fault(self, path: str, fault: Exception) -> Member:
+        self.opened.has_image = True
+        return Member(path, fault=fault)
 
     def _zip(self, stream: Stream) -> Iterator[Tuple[str, Callable[[], Entry]]]:
         if isinstance(stream, Flow):
@@ -307,7 +332,7 @@ class _Walk:
         source, packed = archive.source, member.place(archive)
         is_plain = packed.method == STORED and packed.size == packed.packed_size
         stream = Window(source, packed.start, packed.size) if is_plain else self._unpacked(source, packed)
-        return Entry(stream, source, packed)
+        return Entry(stream, member.mode, source, packed)
 
     def _unpacked(self, source: Source, packed: Packed) -> Flow:
         return Flow(unpack(source, packed, self.allowance))
@@ -322,23 +347,25 @@ class _Walk:
         if self.wanted.is_left_out(path):
             return
         if leads_out(name):
-            yield Member(path, fault=Unread("its name leads out of the archive"))
+            yield self._fault(path, Unread("its name leads out of the archive"))
         is_judged = False
         try:
             entry = take()
-            is_image = entry is not None and entry.stream.peek(4) in MACH_O_MAGICS
+            is_image = entry is not None and entry.is_judged
             container = None if is_image or not entry else container_in(entry.stream, self.allowance)
             is_judged = is_image or container is not None
             if container:
                 yield from self._inner(container, path, depth)
             elif self.wanted.is_asked_for(path):
+                is_image = is_image or (entry is not None and entry.is_regular and self.wanted.is_named(path))
+                self.opened.has_image |= is_image
                 # No name here has the contents, which can be large: their last owner is whoever judges them.
                 yield Member(path, self._contents(entry) if entry and is_image else None)
         except FAULTS as fault:
-            yield Member(path, fault=fault)
+            yield self._fault(path, fault)
         said = names.add(name, is_judged)
         if said:
-            yield Member(path, fault=Unread(said))
+            yield self._fault(path, Unread(said))
 
     def _inner(self, container: Container, path: str, depth: int) -> Iterator[Member]:
         if depth == MOST_DEPTH and container.kind in (ZIP, TAR):
@@ -365,7 +392,7 @@ def _tar_entry(archive: Stream, member: TarMember) -> Optional[Entry]:
     if member.fault:
         raise Unread(member.fault)
     source = archive.source if isinstance(archive, Window) else None
-    return Entry(member.stream, source, member.packed) if member.stream else None
+    return Entry(member.stream, member.mode, source, member.packed) if member.stream else None
 
 
 def leads_out(name: str) -> bool:

@@ -6,13 +6,16 @@ import os
 import time
 from fnmatch import fnmatchcase
 from functools import partial
+from itertools import chain
 from typing import (
-    TYPE_CHECKING, Any, Callable, Counter, Dict, Iterable, Iterator, List, NamedTuple, Optional, Protocol, Tuple)
+    TYPE_CHECKING, Any, Callable, Counter, Dict, Iterable, Iterator, List, NamedTuple, Optional, Protocol, Sequence,
+    Tuple)
 
 from ._archives import MOST_UNPACKED, Archive, Begun, Member, Wanted, archive_at, contents_of
 from ._archives import Contents as ArchivedContents
 from ._files import File, Image, Refused, verify
 from ._kinds import is_told, other_kind
+from ._met import Again, Met
 from ._paths import SEPARATOR, last_name, matched
 from ._pool import Work, map_in_processes
 from ._profiles import DEFAULT
@@ -25,9 +28,12 @@ if TYPE_CHECKING:
 ACCEPTED, REFUSED, NO_VERDICT, SKIPPED = "accepted", "refused", "no verdict", "skipped"
 # Of a file that the profile accepts, and that does not meet a key of the policy.
 NOT_BY_POLICY = "not by the policy"
-# What was found in a folder or an archive and says that it is of a kind that is not judged, such as an object file.
+# What was found in a folder or an archive and says that it is of a kind that is not judged, such as an object file, or
+# may be executed and is too short for it.
 OTHER_KIND = "other kind"
 STATUSES = {ACCEPTED: 0, SKIPPED: 0, OTHER_KIND: 0, REFUSED: 1, NOT_BY_POLICY: 1, NO_VERDICT: 2}
+# What is said of a link that is in a manifest, and of an archive that is named.
+NO_FILE, NO_IMAGE = "link, device or pipe", "an archive without a file to judge"
 # The words for a run that has ended early.
 NOT_ALL = "not all files were judged"
 # The parts of a path that name no file in a folder.
@@ -61,9 +67,10 @@ class Identity(NamedTuple):
 
 class Outcome(NamedTuple):
     """What is said of a file. A refused one has a rule, a place, and perhaps the kind or the slice that is not judged;
-    an accepted one has slices, and keys of the policy if it does not meet them; and one without a verdict a reason.
-    `size` is how many bytes were read. `extra` is what was asked of the file besides. It is known if the verdict is
-    that of a manifest. The identity is there if it was asked for."""
+    an accepted one has slices, and keys of the policy if it does not meet them; and one without a verdict a reason, and
+    a kind if that is the reason. `size` is how many bytes were read. `extra` is what was asked of the file besides. It
+    is known if the verdict is that of a manifest. The identity is there if it was asked for. Of a file that was met
+    before, `again` says how."""
 
     path: str
     word: str
@@ -78,6 +85,18 @@ class Outcome(NamedTuple):
     unmet: Tuple[Unmet, ...] = ()
     identity: Optional[Identity] = None
     is_known: bool = False
+    again: Optional[Again] = None
+
+    @property
+    def is_judged(self) -> bool:
+        """Whether there is a verdict on its bytes."""
+        return self.word in (ACCEPTED, NOT_BY_POLICY, REFUSED)
+
+    @property
+    def is_counted(self) -> bool:
+        """Whether it is the first outcome of its file; or the first that matters, if only now the file has to have a
+        verdict, and has none."""
+        return self.again is None or (self.again.is_named and self.word == NO_VERDICT)
 
     @property
     def status(self) -> int:
@@ -92,13 +111,14 @@ class Outcome(NamedTuple):
 class Target(NamedTuple):
     """A file to judge: one that the user has named, or one that was found in a folder or an archive. Whatever is not
     judged has its outcome already. `contents` is what a member of an archive has, or where it is. A compressed archive
-    can be a target itself: it is opened where its members are judged."""
+    can be a target itself: it is opened where its members are judged. `again` is as for an outcome."""
 
     path: str
     is_found: bool = False
     outcome: Optional[Outcome] = None
     contents: Optional[ArchivedContents] = None
     is_packed: bool = False
+    again: Optional[Again] = None
 
 
 class Stopped(Exception):
@@ -114,9 +134,19 @@ class Known(Protocol):
     def of_bytes(self, path: str, sha256: str) -> Optional[Outcome]:
         """The outcome of a file with these bytes."""
 
+    def names(self, path: str) -> bool:
+        """Whether a file of this path was judged, or had to be."""
+
+    def enter(self, folder: str) -> None:
+        """This run meets all files of a folder."""
+
+    def with_missing(self, outcomes: Iterator[Outcome], choice: Choice) -> Iterator[Outcome]:
+        """The outcomes, and after them those of files that were judged, are in such a folder, and were not met."""
+
 
 class Choice(NamedTuple):
-    """How files are chosen and judged, and whether each outcome has its identity."""
+    """How files are chosen and judged, and whether each outcome has its identity. `walks` is of `kesvuot check` alone:
+    it enters folders, and there a file that is named and not judged has no verdict."""
 
     profile: str = DEFAULT
     walks: bool = True
@@ -125,6 +155,7 @@ class Choice(NamedTuple):
     skips_other_kinds: bool = False
     fails_other_kinds: bool = False
     refuses_unsupported: bool = False
+    allows_none: bool = False
     maps: bool = False
     opens_found: bool = False
     most_unpacked: int = MOST_UNPACKED
@@ -138,30 +169,45 @@ class Choice(NamedTuple):
 # Finding
 
 
-def find(paths: Iterable[str], choice: Choice) -> Iterator[Target]:
-    """The files that are named, and those in the folders that are named: in the order of the names, and those of a
-    folder before those of the folders in it."""
-    for path in paths:
-        if choice.walks and path != "-" and os.path.isdir(path):
-            yield from _files_of(path, choice)
+def find(paths: Sequence[str], choice: Choice, listed: Optional[Iterable[str]] = None) -> Iterator[Target]:
+    """The files that are named, also in a list after the paths, and those in the folders that are named: in the order
+    of the names, and those of a folder before those of the folders in it. Each comes once, by its first name; unless it
+    is named and was only found before, or has another name and a manifest is written."""
+    if not choice.walks:
+        yield from map(Target, paths)
+        return
+    met = Met(paths, listed is not None, choice.identifies)
+    for path in chain(paths, listed or ()):
+        if path != "-" and os.path.isdir(path):
+            if choice.known:
+                choice.known.enter(path)
+            yield from _files_of(path, choice, met)
         else:
-            yield Target(path)
+            yield from _unless_again(Target(path), met)
 
 
-def _files_of(folder: str, choice: Choice) -> Iterator[Target]:
+def _unless_again(target: Target, met: Met) -> Iterator[Target]:
+    again = met.again(target.path, target.is_found)
+    if again is None or any(again):
+        yield target._replace(again=again)
+
+
+def _files_of(folder: str, choice: Choice, met: Met) -> Iterator[Target]:
     left = [folder]
     while left:
         current = left.pop()
         try:
             names = _scan(current, choice)
         except OSError as error:
-            yield Target(current, outcome=Outcome(current, NO_VERDICT, reason=_reason(error)))
+            outcome = Outcome(current, NO_VERDICT, reason=_reason(error))
+            yield from _unless_again(Target(current, outcome=outcome), met)
             continue
         for name in names.files:
-            yield Target(os.path.join(current, name), is_found=True)
+            path = os.path.join(current, name)
+            yield from _unless_again(Target(path, not met.is_given(path)), met)
         for name in names.others:
             path = os.path.join(current, name)
-            yield Target(path, outcome=Outcome(path, SKIPPED))
+            yield from _unless_again(Target(path, True, _skipped(path, choice)), met)
         left += [os.path.join(current, name) for name in reversed(names.folders)]
 
 
@@ -177,11 +223,11 @@ def _scan(folder: str, choice: Choice) -> Names:
     names = Names([], [], [])
     with os.scandir(folder) as entries:
         for entry in entries:
-            if _is_left_out(choice, entry.path):
+            if is_left_out(choice, entry.path):
                 continue
             if entry.is_dir(follow_symlinks=False):
                 names.folders.append(entry.name)
-            elif _is_asked_for(choice, entry.path) or (choice.opens_found and entry.is_file(
+            elif is_asked_for(choice, entry.path) or (choice.opens_found and entry.is_file(
                     follow_symlinks=False)):
                 (names.files if entry.is_file(follow_symlinks=False) else names.others).append(entry.name)
     for some in names:
@@ -189,7 +235,8 @@ def _scan(folder: str, choice: Choice) -> Names:
     return names
 
 
-def _is_left_out(choice: Choice, path: str) -> bool:
+def is_left_out(choice: Choice, path: str) -> bool:
+    """Whether a file or a folder that was found is left out, by its own name."""
     return any(_matches(path, pattern) for pattern in choice.exclude)
 
 
@@ -200,10 +247,11 @@ def _is_left_out_in_archive(choice: Choice, path: str) -> bool:
     start = path.rindex(SEPARATOR) + 1
     folders = (path[:at] for at in range(start, len(path)) if path[at] == "/")
     # No walk over a folder finds a dot.
-    return any(_is_left_out(choice, it) for it in (*folders, path) if last_name(it) not in NO_NAMES)
+    return any(is_left_out(choice, it) for it in (*folders, path) if last_name(it) not in NO_NAMES)
 
 
-def _is_asked_for(choice: Choice, path: str) -> bool:
+def is_asked_for(choice: Choice, path: str) -> bool:
+    """Whether a file that was found is asked for, by its name."""
     return not choice.include or any(_matches(path, pattern) for pattern in choice.include)
 
 
@@ -224,7 +272,8 @@ def without_match(patterns: List[str], path: str) -> List[str]:
 
 def open_archives(targets: Iterator[Target], choice: Choice, leaves_packed: bool = False) -> Iterator[Target]:
     """The targets, with the members of each archive in its place; unless it is compressed, and such are left."""
-    wanted = Wanted(partial(_is_left_out_in_archive, choice), partial(_is_asked_for, choice), choice.identifies)
+    wanted = Wanted(partial(_is_left_out_in_archive, choice), partial(is_asked_for, choice),
+                    partial(_is_named_there, choice), choice.identifies)
     for target in targets:
         can_open = not target.outcome and (choice.opens_found or not target.is_found)
         allowance = Allowance(choice.most_unpacked)
@@ -233,15 +282,20 @@ def open_archives(targets: Iterator[Target], choice: Choice, leaves_packed: bool
             found.close()
             yield target._replace(is_packed=True)
         elif isinstance(found, Archive):
+            if target.again and target.again.is_named and not choice.opens_found:
+                # When it was found, it was not opened.
+                target = target._replace(again=None)
             # No name here has a member, which can be large.
             yield from map(partial(_target_of, choice, target), found.members(wanted, allowance))
+            if not (found.has_image or target.is_found or choice.allows_none):
+                yield target._replace(outcome=Outcome(target.path, NO_VERDICT, reason=NO_IMAGE))
         elif isinstance(found, Begun):
             yield target._replace(contents=found)
-        elif not target.is_found or _is_asked_for(choice, target.path):
+        elif not target.is_found or is_asked_for(choice, target.path):
             yield target
 
 
-def count_files(paths: Iterable[str], choice: Choice) -> int:
+def count_files(paths: Sequence[str], choice: Choice) -> int:
     """About how many files there are, by a walk of its own: of archives, only zip says how many it has."""
     total = 0
     for target in find(paths, choice):
@@ -258,10 +312,10 @@ def _target_of(choice: Choice, archive: Target, member: Member) -> Target:
     if member.fault:
         outcome = Outcome(path, NO_VERDICT, reason=_reason(member.fault))
     elif member.kind:
-        outcome = Outcome(path, _word_of_kind(is_found, choice), rule="magic", kind=member.kind)
+        outcome = _chosen(Outcome(path, REFUSED, rule="magic", kind=member.kind), is_found, choice)
     elif member.contents is None:
-        outcome = Outcome(path, SKIPPED)
-    return Target(path, is_found, outcome, member.contents)
+        outcome = _skipped(path, choice)
+    return Target(path, is_found, outcome, member.contents, again=archive.again)
 
 
 # A longer path is not sent along with others. Archives have names of any length.
@@ -280,16 +334,25 @@ def weight_of(target: Target) -> int:
 def judge(target: Target, choice: Choice) -> Outcome:
     """Judges a file. It is read into memory, so nobody can change it meanwhile; unless the choice is that it is mapped,
     and then whoever can write to it can change it, and end this process by cutting it."""
+    outcome = _judge(target, choice)
+    return outcome._replace(again=target.again) if target.again else outcome
+
+
+def _judge(target: Target, choice: Choice) -> Outcome:
     path, size = target.path, 0
     try:
         before = outcome_before(target, choice)
         if before:
             return before
         began, stamps = time.time_ns(), [] if choice.identifies else None
-        if target.contents is not None:
-            data: Contents = contents_of(target.contents, stamps)
-        else:
-            data = (read_found if target.is_found else read_given)(path, choice.maps, stamps)
+        try:
+            if target.contents is not None:
+                data: Contents = contents_of(target.contents, stamps)
+            else:
+                data = (read_found if target.is_found else read_given)(path, choice.maps, stamps)
+        except NotMachO as other:
+            is_named = other.head is not None and _is_named(path, target.is_found, choice)
+            return judge_bytes(path, other.head or b"", choice, True) if is_named else _skipped(path, choice)
         size = len(data)
         if stamps is None:
             return judge_bytes(path, data, choice, target.is_found)
@@ -297,8 +360,6 @@ def judge(target: Target, choice: Choice) -> Outcome:
         known = choice.known.of_bytes(path, identity.sha256) if choice.known else None
         outcome = _known_outcome(known, target.is_found, choice) or judge_bytes(path, data, choice, target.is_found)
         return outcome._replace(size=size, identity=identity)
-    except NotMachO:
-        return Outcome(path, SKIPPED)
     except Exception as error:  # pylint: disable=broad-except # one file without a verdict is not all of them
         return Outcome(path, NO_VERDICT, size, reason=_reason(error))
 
@@ -342,22 +403,43 @@ def _known_outcome(known: Optional[Outcome], is_found: bool, choice: Choice) -> 
 
 
 def _chosen(outcome: Outcome, is_found: bool, choice: Choice) -> Outcome:
-    """The outcome of a file, with another word if it is refused and says that it is of another kind."""
-    is_other = outcome.word == REFUSED and is_told(outcome.kind)
-    return outcome._replace(word=_word_of_kind(is_found, choice)) if is_other else outcome
+    """The outcome of a file, with another word if it is refused because it is of another kind: nothing in it was
+    judged."""
+    if outcome.kind is None or outcome.word != REFUSED or not choice.walks:
+        return outcome
+    if choice.skips_other_kinds and is_told(outcome.kind):
+        return outcome._replace(word=SKIPPED)
+    if _is_named(outcome.path, is_found, choice):
+        return _without_verdict(outcome.path, outcome.kind)
+    return outcome if choice.fails_other_kinds else outcome._replace(word=OTHER_KIND)
+
+
+def _is_named(path: str, is_found: bool, choice: Choice) -> bool:
+    """Whether the user has named a file, so that it has to have a verdict: as a path, in a list, by --include, or in a
+    manifest. What was found is here only if its name is asked for."""
+    return not is_found or _is_named_there(choice, path)
+
+
+def _is_named_there(choice: Choice, path: str) -> bool:
+    """The same of a file that was found in a folder or an archive."""
+    return choice.include != () or (choice.known is not None and choice.known.names(path))
+
+
+def _skipped(path: str, choice: Choice) -> Outcome:
+    """The outcome of what is no file, such as a link, or has nothing to judge. No pattern names what is no file."""
+    if choice.known and choice.known.names(path):
+        return _without_verdict(path, NO_FILE)
+    return Outcome(path, SKIPPED)
+
+
+def _without_verdict(path: str, kind: str) -> Outcome:
+    return Outcome(path, NO_VERDICT, kind=kind, reason=f"{kind}, not judged")
 
 
 def _settled(stamps: List[Stamp], began: int) -> Optional[Stamp]:
     """The stamp of a file, if nothing has changed it while it was read, or just before that."""
     is_settled = len(set(stamps)) == 1 and stamps[0].changed + SETTLED_NS < began
     return stamps[0] if is_settled else None
-
-
-def _word_of_kind(is_found: bool, choice: Choice) -> str:
-    """What a refused file is that says it is of another kind."""
-    if choice.skips_other_kinds:
-        return SKIPPED
-    return OTHER_KIND if is_found and not choice.fails_other_kinds else REFUSED
 
 
 def _reason(error: BaseException) -> str:
@@ -368,26 +450,29 @@ def _reason(error: BaseException) -> str:
 
 
 def _killed(target: Target) -> Outcome:
-    return Outcome(target.path, NO_VERDICT, reason="the process that judged it has ended")
+    return Outcome(target.path, NO_VERDICT, reason="the process that judged it has ended", again=target.again)
 
 
-def targets_of(paths: Iterable[str], choice: Choice, leaves_packed: bool = False) -> Iterator[Target]:
+def targets_of(paths: Sequence[str], choice: Choice, listed: Optional[Iterable[str]] = None,
+               leaves_packed: bool = False) -> Iterator[Target]:
     """The files to judge, with the members of archives."""
-    targets = find(paths, choice)
+    targets = find(paths, choice, listed)
     return open_archives(targets, choice, leaves_packed) if choice.walks else targets
 
 
-def judge_all(paths: Iterable[str], choice: Choice, jobs: int) -> Iterator[Outcome]:
+def judge_all(paths: Sequence[str], choice: Choice, jobs: int,
+              listed: Optional[Iterable[str]] = None) -> Iterator[Outcome]:
     """The outcomes of all files, in the order in which they are found. No more than some hundred are held at once, and
     of each compressed archive some thousand. One process judges all members of such an archive: to unpack them in
     another one and to send them costs more than to judge them."""
     do, opened = partial(judge, choice=choice), partial(_opened, choice)
-    work = Work(do, _known, _killed, is_input, weight_of, _is_packed, opened)
-    return map_in_processes(work, targets_of(paths, choice, leaves_packed=jobs > 1), jobs)
+    work = Work(do, known_outcome, _killed, is_input, weight_of, _is_packed, opened)
+    return map_in_processes(work, targets_of(paths, choice, listed, leaves_packed=jobs > 1), jobs)
 
 
-def _known(target: Target) -> Optional[Outcome]:
-    return target.outcome
+def known_outcome(target: Target) -> Optional[Outcome]:
+    """The outcome of what is not judged."""
+    return target.outcome and target.outcome._replace(again=target.again)
 
 
 def _is_packed(target: Target) -> bool:
@@ -404,16 +489,23 @@ def is_input(target: Target) -> bool:
     return target.path == "-"
 
 
+# So many files of other kinds the summary names.
+MOST_NAMED = 20
+
+
 class Summary:
     """How many files there are of each kind, how many each rule refuses, and how many do not meet each key of the
-    policy, if there is one. And why the run itself has failed, if it has."""
+    policy, if there is one; and the first ones that were found and are of another kind. And why the run itself has
+    failed, if it has."""
 
     def __init__(self, has_policy: bool = False) -> None:
         self.words: Counter[str] = Counter()
         self.rules: Counter[str] = Counter()
         self.keys: Counter[str] = Counter()
         self.has_policy = has_policy
-        self.other_kinds = 0
+        # How many of each word are of another kind, and the first of OTHER_KIND.
+        self.other_kinds: Counter[str] = Counter()
+        self.found: List[Outcome] = []
         self.known = 0
         self.size = 0
         self.worst = 0
@@ -427,7 +519,9 @@ class Summary:
         if outcome.word == REFUSED:
             self.rules[str(outcome.rule)] += 1
         self.keys.update(list(dict.fromkeys(unmet.key for unmet in outcome.unmet)))
-        self.other_kinds += outcome.word == REFUSED and outcome.kind is not None
+        self.other_kinds[outcome.word] += outcome.kind is not None
+        if outcome.word == OTHER_KIND and len(self.found) < MOST_NAMED:
+            self.found.append(outcome)
         self.known += outcome.word == REFUSED and outcome.is_known
         self.size += outcome.size
         self.worst = max(self.worst, outcome.status)
@@ -440,9 +534,26 @@ class Summary:
         """The run has failed, whatever the verdicts are."""
         self.fault = why
 
+    def expect(self, count: int) -> None:
+        """The run has failed if it has judged fewer files."""
+        if self.judged < count:
+            some = f"{self.judged} files were" if self.judged > 1 else "1 file was" if self.judged else "no file was"
+            why = f", and {count} were expected" if count > 1 else "; --allow-none accepts that"
+            self.fail(f"{some} judged{why}")
+
     @property
     def files(self) -> int:
         return sum(self.words.values())
+
+    @property
+    def judged(self) -> int:
+        """How many files have a verdict on their bytes."""
+        return self.words[ACCEPTED] + self.words[NOT_BY_POLICY] + self.words[REFUSED]
+
+    @property
+    def more_found(self) -> int:
+        """How many files of OTHER_KIND there are besides the first ones."""
+        return self.words[OTHER_KIND] - len(self.found)
 
     @property
     def status(self) -> int:
@@ -452,13 +563,14 @@ class Summary:
         return STATUSES[NO_VERDICT] if self.fault else self.worst
 
     def __str__(self) -> str:
-        some = [f"{count} {what}" for count, what in ((self.other_kinds, "of another kind"), (self.known, "known"))
-                if count]
+        kinds = {word: f"{count} of another kind" for word, count in self.other_kinds.items() if count}
+        some = [*filter(None, [kinds.get(REFUSED)]), *([f"{self.known} known"] if self.known else [])]
         notes = f" ({', '.join(some)})" if some else ""
+        unjudged = f" ({kinds[NO_VERDICT]})" if NO_VERDICT in kinds else ""
         policy = f"{self.words[NOT_BY_POLICY]} {NOT_BY_POLICY}, " if self.has_policy else ""
-        others = f", {self.words[OTHER_KIND]} of another kind" if self.words[OTHER_KIND] else ""
+        others = f", {kinds[OTHER_KIND]}" if OTHER_KIND in kinds else ""
         return (f"{self.words[ACCEPTED]} accepted, {policy}{self.words[REFUSED]} refused{notes}, "
-                f"{self.words[NO_VERDICT]} without verdict, {self.words[SKIPPED]} skipped{others}"
+                f"{self.words[NO_VERDICT]} without verdict{unjudged}, {self.words[SKIPPED]} skipped{others}"
                 f"{f'; {NOT_ALL}' if self.is_partial else ''}")
 
     def object(self) -> Dict[str, Any]:
@@ -466,5 +578,5 @@ class Summary:
         policy = {"not_by_policy": self.words[NOT_BY_POLICY]} if self.has_policy else {}
         known = {"known": self.known} if self.known else {}
         return {**failed, "accepted": self.words[ACCEPTED], **policy, "refused": self.words[REFUSED],
-                "other_kinds": self.other_kinds + self.words[OTHER_KIND], **known,
+                "other_kinds": sum(self.other_kinds[word] for word in (REFUSED, NO_VERDICT, OTHER_KIND)), **known,
                 "no_verdict": self.words[NO_VERDICT], "skipped": self.words[SKIPPED], "status": self.status}

@@ -21,7 +21,8 @@ from typing import Any, Deque, Dict, Iterator, List, NamedTuple, Optional, Set, 
 
 from . import library_version
 from ._archives import Place
-from ._check import NO_VERDICT, Choice, Outcome, Stopped, Target, is_input, judge, outcome_before, weight_of
+from ._check import (
+    NO_VERDICT, Choice, Outcome, Stopped, Target, is_input, judge, known_outcome, outcome_before, weight_of)
 from ._output import say
 from ._pool import HEAVY, UpToFault
 from ._reports import VERSION
@@ -97,7 +98,7 @@ class Batch:
     """Some files, with their outcomes once all are there."""
 
     def __init__(self, targets: List[Target]) -> None:
-        known = [target.outcome for target in targets if target.outcome]
+        known = [outcome for outcome in map(known_outcome, targets) if outcome]
         self.targets = targets
         self.outcomes: Optional[List[Outcome]] = known if len(known) == len(targets) else None
         self.faults = 0
@@ -292,8 +293,8 @@ class _Cluster:
         if batch.faults < MOST_FAULTS:
             self._give(batch)
         else:
-            batch.outcomes = [Outcome(target.path, NO_VERDICT, reason=f"the worker has failed: {answer}")
-                              for target in batch.targets]
+            batch.outcomes = [Outcome(target.path, NO_VERDICT, reason=f"the worker has failed: {answer}",
+                                      again=target.again) for target in batch.targets]
 
     def _next_ended(self) -> Tuple[str, Any]:
         while True:
@@ -322,7 +323,7 @@ class _Cluster:
                 self._receive()
                 if single in self.begun:
                     self.begun.remove(single)
-                    single.outcomes = [Outcome(target.path, NO_VERDICT, reason=KILLED)]
+                    single.outcomes = [Outcome(target.path, NO_VERDICT, reason=KILLED, again=target.again)]
             batch.outcomes += single.outcomes
 
     # Workers

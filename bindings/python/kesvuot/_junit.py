@@ -9,7 +9,7 @@ from xml.sax.saxutils import escape, quoteattr
 from ._check import ACCEPTED, NO_VERDICT, NOT_BY_POLICY, OTHER_KIND, REFUSED, SKIPPED, Outcome, Summary
 from ._paths import located, shown
 from ._policy_reports import lines, rule_of
-from ._reports import Report, Write, reason_text, rule_text
+from ._reports import Report, Write, found_text, reason_text, rule_text
 from ._waiting import Waiting
 
 if TYPE_CHECKING:
@@ -72,7 +72,7 @@ class Junit(Report):
             self.cases.add(f"{start}/>\n")
             return
         if outcome.word == OTHER_KIND or outcome.is_known:
-            reason = f"{outcome.kind}, not judged" if outcome.word == OTHER_KIND else reason_text(outcome)
+            reason = found_text(outcome) if outcome.word == OTHER_KIND else reason_text(outcome)
             self.cases.add(f"{start}>\n      <skipped message={quoteattr(reason)}/>\n    </testcase>\n")
             return
         is_refused = outcome.word == REFUSED

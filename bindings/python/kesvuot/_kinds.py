@@ -16,8 +16,8 @@ BEGINNINGS = {
     b"BC\xc0\xde": "LLVM bitcode", b"\xde\xc0\x17\x0b": "LLVM bitcode", b"dyld_v1": "shared cache",
     b"--- !tapi-tbd": "text stub of a library", b"PK\x03\x04": "zip archive", b"#!": "script"}
 
-# What is printed of a file that does not itself say which kind it is of.
-EMPTY, UNKNOWN = "empty file", "not Mach-O"
+# What is printed of a file that does not itself say which kind it is of: of one of 0 to 3 bytes, and of any other.
+SHORT, UNKNOWN = ("empty file", "file of 1 byte", "file of 2 bytes", "file of 3 bytes"), "not Mach-O"
 
 # The least major version of a Java class, and the tags that an entry of its constant pool begins with.
 JAVA_VERSION, JAVA_TAGS = 45, frozenset({1, *range(3, 13), *range(15, 21)})
@@ -25,6 +25,8 @@ JAVA_VERSION, JAVA_TAGS = 45, frozenset({1, *range(3, 13), *range(15, 21)})
 
 def other_kind(rule: str, place: int, data: Contents) -> Optional[str]:
     """The kind of a file that broke the rule at the place, or None if its kind is one that is judged."""
+    if rule == "magic" and len(data) < len(SHORT):
+        return SHORT[len(data)]
     if rule == "magic":
         return _kind_of_beginning(data[:16]) or (None if bytes(data[:4]) in MACH_O_MAGICS else UNKNOWN)
     if rule == "file-type":
@@ -42,12 +44,10 @@ def other_kind(rule: str, place: int, data: Contents) -> Optional[str]:
 
 def is_told(kind: Optional[str]) -> bool:
     """Whether a file of this kind itself says that it is of it. An empty output of a build, or one of zeros, does not."""
-    return kind not in (None, EMPTY, UNKNOWN)
+    return kind is not None and kind not in (*SHORT, UNKNOWN)
 
 
 def _kind_of_beginning(first: Union[bytes, bytearray]) -> Optional[str]:
-    if not first:
-        return EMPTY
     return next((kind for beginning, kind in BEGINNINGS.items() if first.startswith(beginning)), None)
 
 

@@ -9,21 +9,24 @@ import mmap
 import os
 import re
 import secrets
-from array import array
 from contextlib import suppress
 from functools import lru_cache
-from typing import Any, Dict, Iterator, Optional, Tuple
+from typing import Any, Dict, Iterator, Optional, Set, Tuple
 
 from . import library_version
 from ._check import (
-    ACCEPTED, NO_VERDICT, NOT_BY_POLICY, OTHER_KIND, REFUSED, Choice, Identity, Outcome, Stopped, Unsupported)
-from ._paths import file_object, shown
+    ACCEPTED, NO_VERDICT, NOT_BY_POLICY, OTHER_KIND, REFUSED, Choice, Identity, Outcome, Stopped, Unsupported,
+    is_asked_for, is_left_out)
+from ._paths import SEPARATOR, file_object, matched, shown
 from ._reading import Stamp, stamp_of
 from ._reports import RULES_AND_CHOICES
+from ._table import Table
 
 # The form of a manifest. A field may be added to its lines without a new version.
 SCHEMA, MANIFEST_VERSION = "kesvuot-manifest", 1
 SHA256 = re.compile("[0-9a-f]{64}")
+# The path of standard input, which is no file of a folder.
+STANDARD_INPUT = "-"
 # The verdict of the profile on a file with one of these words. Others depend on what else was asked.
 VERDICTS = {ACCEPTED: ACCEPTED, NOT_BY_POLICY: ACCEPTED, REFUSED: REFUSED, OTHER_KIND: REFUSED}
 
@@ -143,51 +146,16 @@ class Manifest:
 # Reading
 
 
-class Table:
-    """Offsets by keys, in memory that processes share after a fork: 16 bytes for each slot, and two to four slots for
-    each key. Different offsets may have one key."""
-
-    def __init__(self) -> None:
-        self.count = 0
-        self.slots = 16
-        self.keys, self.offsets = array("Q", bytes(8 * self.slots)), array("Q", bytes(8 * self.slots))
-
-    def find(self, key: int) -> Iterator[int]:
-        """The offsets that have the key."""
-        slot = key % self.slots
-        while self.offsets[slot]:
-            if self.keys[slot] == key:
-                yield self.offsets[slot]
-            slot = (slot + 1) % self.slots
-
-    def add(self, key: int, offset: int) -> None:
-        """Adds an offset, which is not 0."""
-        if 2 * self.count >= self.slots:
-            self._grow()
-        self.count += 1
-        self._put(key, offset)
-
-    def _put(self, key: int, offset: int) -> None:
-        slot = key % self.slots
-        while self.offsets[slot]:
-            slot = (slot + 1) % self.slots
-        self.keys[slot], self.offsets[slot] = key, offset
-
-    def _grow(self) -> None:
-        before = self.keys, self.offsets
-        self.slots *= 2
-        self.keys, self.offsets = array("Q", bytes(8 * self.slots)), array("Q", bytes(8 * self.slots))
-        for key, offset in zip(*before):
-            if offset:
-                self._put(key, offset)
-
-
 class Baseline:
-    """What a manifest knows: by the SHA-256 of a file's bytes, and if `trusts_stamps` also by its path and stamp."""
+    """What a manifest knows: by the SHA-256 of a file's bytes, and if `trusts_stamps` also by its path and stamp. And
+    which files it names, by their paths from a folder, however these are written."""
 
-    def __init__(self, path: str, wanted: Dict[str, Any], trusts_stamps: bool) -> None:
+    def __init__(self, path: str, wanted: Dict[str, Any], trusts_stamps: bool, folder: str) -> None:
         self.path, self.wanted, self.trusts_stamps = os.path.abspath(path), wanted, trusts_stamps
+        self.folder = folder
         self.by_bytes, self.by_file = Table(), Table()
+        # The folders and archives whose files this run meets.
+        self.entered: Set[str] = set()
         self.sha256 = ""
         try:
             with open(path, "rb") as stream:
@@ -202,7 +170,7 @@ class Baseline:
     def __reduce__(self) -> Tuple[Any, ...]:
         """Another process reads the manifest itself, once."""
         self.sha256 = self.sha256 or hashlib.sha256(self.text).hexdigest()
-        return read_once, (self.path, tuple(self.wanted.items()), self.trusts_stamps, self.sha256)
+        return read_once, (self.path, tuple(self.wanted.items()), self.trusts_stamps, self.folder, self.sha256)
 
     def _check_head(self, name: str) -> None:
         try:
@@ -225,37 +193,89 @@ class Baseline:
                 return
             try:
                 line = json.loads(text)
-                outcome = None if line["verdict"] is None else outcome_of(line, path_of(line))
-                if outcome:
-                    self._add(outcome, offset)
+                path = path_of(line)
+                if line["verdict"] is not None:
+                    self._add(outcome_of(line, path), offset)
+                if self._line_of_file(path) is None:
+                    self.by_file.add(key_of_path(self._whole(path)), offset)
             except (ValueError, KeyError, TypeError, AttributeError) as error:
                 raise ManifestError(f"{name}: line {number} is not a line of a manifest") from error
             number, offset = number + 1, self.text.tell()
 
     def _add(self, outcome: Outcome, offset: int) -> None:
-        """Adds what a line says. Of several lines about the same bytes, or the same file, the first counts."""
+        """Adds the bytes that a line is about. Of several lines about the same bytes, or the same file, the first counts.
+        """
         assert outcome.identity
         if self.of_bytes(outcome.path, outcome.identity.sha256) is None:
             self.by_bytes.add(key_of_bytes(outcome.identity.sha256), offset)
-        if self.trusts_stamps and outcome.identity.stamp and self._line_of_file(outcome.path) is None:
-            self.by_file.add(key_of_path(outcome.path), offset)
 
-    def _lines(self, table: Table, key: int) -> Iterator[Dict[str, Any]]:
-        for offset in table.find(key):
-            end = self.text.find(b"\n", offset)
-            yield json.loads(self.text[offset:end if end >= 0 else len(self.text)])
+    def _line(self, offset: int) -> Dict[str, Any]:
+        end = self.text.find(b"\n", offset)
+        line: Dict[str, Any] = json.loads(self.text[offset:end if end >= 0 else len(self.text)])
+        return line
 
     def of_file(self, path: str) -> Optional[Outcome]:
         """The outcome of a file that has not changed since."""
-        line = self._line_of_file(path)
-        return outcome_of(line, path) if line and Stamp(**line["stamp"]) == stamp_of(os.stat(path)) else None
+        line = self._line_of_file(path) if self.trusts_stamps else None
+        is_same = line and "stamp" in line and path_of(line) == path and Stamp(**line["stamp"]) == stamp_of(os.stat(path))
+        return outcome_of(line, path) if line and is_same else None
+
+    def _whole(self, path: str) -> str:
+        return os.path.normpath(os.path.join(self.folder, matched(path)))
 
     def _line_of_file(self, path: str) -> Optional[Dict[str, Any]]:
-        return next((line for line in self._lines(self.by_file, key_of_path(path)) if path_of(line) == path), None)
+        whole = self._whole(path)
+        lines = map(self._line, self.by_file.find(key_of_path(whole)))
+        return next((line for line in lines if self._whole(path_of(line)) == whole), None)
+
+    def names(self, path: str) -> bool:
+        """Whether a line is about a file at the path, and says no kind: what is of another kind was not judged."""
+        line = self._line_of_file(path)
+        return line is not None and line.get("kind") is None
+
+    # What is missing
+
+    def enter(self, folder: str) -> None:
+        """This run meets all files of a folder."""
+        self.entered.add(self._whole(folder))
+
+    def with_missing(self, outcomes: Iterator[Outcome], choice: Choice) -> Iterator[Outcome]:
+        """The outcomes, and after them those of files that have a verdict in the manifest, and should have been met."""
+        for outcome in outcomes:
+            self._meet(outcome.path)
+            yield outcome
+        for offset in sorted(self.by_file.unmarked()):
+            line = self._line(offset)
+            path = path_of(line) if "name_bytes" in line else path_of(line).replace("!", SEPARATOR)
+            if line["verdict"] is not None and line.get("kind") is None and self._should_be_met(path, choice):
+                why = "not judged" if os.path.lexists(path) else "not there"
+                yield Outcome(path, NO_VERDICT, reason=f"in the manifest, and {why}")
+
+    def _meet(self, path: str) -> None:
+        whole = self._whole(path)
+        key = key_of_path(whole)
+        offsets = list(self.by_file.find(key))
+        for offset in offsets:
+            if len(offsets) == 1 or self._whole(path_of(self._line(offset))) == whole:
+                self.by_file.mark(key, offset)
+        if SEPARATOR in path:
+            self.enter(path.partition(SEPARATOR)[0])
+
+    def _should_be_met(self, path: str, choice: Choice) -> bool:
+        """Whether the path is in a folder or an archive that was entered, and is not left out there."""
+        folders = [path[:at] for at, letter in enumerate(path) if letter in ("/", SEPARATOR)]
+        inner = [it for it in (*folders, path) if self._is_entered(it)]
+        return (path != STANDARD_INPUT and path in inner and is_asked_for(choice, path)
+                and not any(is_left_out(choice, it) for it in inner))
+
+    def _is_entered(self, path: str) -> bool:
+        """Whether something that the path is in was entered."""
+        whole = self._whole(path)
+        return any((whole[:at] or "/") in self.entered for at, letter in enumerate(whole) if letter in "/!")
 
     def of_bytes(self, path: str, sha256: str) -> Optional[Outcome]:
         """The outcome of a file whose bytes have this hash."""
-        lines = self._lines(self.by_bytes, key_of_bytes(sha256))
+        lines = map(self._line, self.by_bytes.find(key_of_bytes(sha256)))
         return next((outcome_of(line, path) for line in lines if line["sha256"] == sha256), None)
 
 
@@ -273,9 +293,10 @@ def text_of(value: Any) -> str:
 
 
 @lru_cache(maxsize=1)
-def read_once(path: str, wanted: Tuple[Tuple[str, Any], ...], trusts_stamps: bool, sha256: str) -> Baseline:
+def read_once(path: str, wanted: Tuple[Tuple[str, Any], ...], trusts_stamps: bool, folder: str,
+              sha256: str) -> Baseline:
     """The same baseline, in another process."""
-    found = Baseline(path, dict(wanted), trusts_stamps)
+    found = Baseline(path, dict(wanted), trusts_stamps, folder)
     if hashlib.sha256(found.text).hexdigest() != sha256:
         raise ManifestError(f"{shown(path)}: another manifest here")
     return found

@@ -29,7 +29,11 @@ class Unread(Exception):
 
 
 class NotMachO(Exception):
-    """What was found in a folder is no file of Mach-O, by its kind or its first bytes."""
+    """What was found in a folder is no regular file, or none of Mach-O by its first bytes, which are in `head`."""
+
+    def __init__(self, head: Optional[bytes] = None) -> None:
+        super().__init__(head)
+        self.head = head
 
 
 class Stamp(NamedTuple):
@@ -111,8 +115,8 @@ def _read(descriptor: int, known: os.stat_result, maps: bool = False, stamps: St
     if is_found and not is_regular:
         raise NotMachO
     head = head or read_head(descriptor)
-    if is_found and head[:4] not in MACH_O_MAGICS:
-        raise NotMachO
+    if is_found and head[:4] not in MACH_O_MAGICS and not is_stub(head, known.st_mode):
+        raise NotMachO(head)
     if is_regular and known.st_size > LIMIT:
         raise too_long()
     if head[:4] not in JUDGED_MAGICS and stamps is None:
@@ -123,6 +127,11 @@ def _read(descriptor: int, known: os.stat_result, maps: bool = False, stamps: St
     if is_regular and maps:
         return mmap.mmap(descriptor, 0, access=mmap.ACCESS_READ)
     return _read_on(descriptor, bytearray(head))
+
+
+def is_stub(head: bytes, mode: int) -> bool:
+    """Whether a file may be executed, and has no more than these bytes, too few for any program."""
+    return len(head) < 4 and mode & 0o111 != 0
 
 
 def read_head(descriptor: int) -> bytes:

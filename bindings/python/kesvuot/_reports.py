@@ -63,6 +63,11 @@ def reason_text(outcome: Outcome) -> str:
     return f"refused: {outcome.refusal}{f' ({notes})' if notes else ''}"
 
 
+def found_text(outcome: Outcome) -> str:
+    """What is said of a file that was found and is of another kind."""
+    return f"{outcome.kind}, not judged"
+
+
 def check_object(outcome: Outcome) -> Dict[str, Any]:
     """What is said of a file, for JSON (docs/check.schema.json)."""
     whole: Dict[str, Any] = {**file_object(outcome.path), "verdict": outcome.word, "status": outcome.status}
@@ -76,7 +81,7 @@ def check_object(outcome: Outcome) -> Dict[str, Any]:
         if outcome.unsupported:
             whole.update(slice=outcome.unsupported._asdict())
     else:
-        whole.update(verdict=None, error=outcome.reason)
+        whole.update(verdict=None, error=outcome.reason, **({"kind": outcome.kind} if outcome.kind else {}))
     if outcome.is_known:
         whole.update(known=True)
     return whole
@@ -150,7 +155,8 @@ class Json(Report):
 
 class GitHub(Report):
     """A command of GitHub's workflows for each file that is not accepted, for each key of a policy that a file does not
-    meet, and for a run that has failed; and the summary."""
+    meet, and for a run that has failed; a warning for the first files that were found and are of another kind; and the
+    summary."""
 
     def add(self, outcome: Outcome) -> None:
         if outcome.word == REFUSED and not outcome.is_known:
@@ -162,14 +168,16 @@ class GitHub(Report):
         elif outcome.word == NO_VERDICT:
             self._annotate(outcome, outcome.word, reason_text(outcome))
 
-    def _annotate(self, outcome: Outcome, title: str, text: str) -> None:
+    def _annotate(self, outcome: Outcome, title: str, text: str, level: str = "error") -> None:
         def value(word: str) -> str:
             return escaped(word).replace(":", "%3A").replace(",", "%2C")
 
         message = escaped(f"{shown(outcome.path)}: {text}")
-        self.write(f"::error file={value(located(outcome.path))},title={value(f'kesvuot: {title}')}::{message}\n")
+        self.write(f"::{level} file={value(located(outcome.path))},title={value(f'kesvuot: {title}')}::{message}\n")
 
     def end(self, summary: Summary) -> None:
+        for outcome in summary.found:
+            self._annotate(outcome, "not judged", found_text(outcome), "warning")
         if summary.fault:
             self.write(f"::error title=kesvuot::{escaped(summary.fault)}\n")
         self.write(f"{summary}\n")

@@ -7,12 +7,12 @@ import signal
 from typing import Any, Dict
 
 from . import _policy_reports
-from ._check import NO_VERDICT, NOT_BY_POLICY, REFUSED, Outcome, Summary
+from ._check import NO_VERDICT, NOT_BY_POLICY, OTHER_KIND, REFUSED, Outcome, Summary
 from ._explanation import explain
 from ._files import Refused
 from ._paths import uri
 from ._reading import Contents
-from ._reports import RULES_AND_CHOICES, VERSION, Report, Write, link, reason_text, rule_text
+from ._reports import RULES_AND_CHOICES, VERSION, Report, Write, found_text, link, reason_text, rule_text
 from ._rules import Rule
 from ._waiting import Waiting
 
@@ -26,7 +26,7 @@ def extent(data: Contents, refused: Refused) -> int:
 
 class Sarif(Report):
     """SARIF 2.1.0: a result for each refused file and for each key of a policy that a file does not meet, and a
-    notification for each without a verdict. The region is one of bytes, because the files are no texts. It has a line
+    notification for each without a verdict, or of another kind. The region is one of bytes, because the files are no texts. It has a line
     all the same, without which some consumers take no result."""
 
     of_refused = staticmethod(extent)
@@ -80,6 +80,8 @@ class Sarif(Report):
                 self.separator = ",\n        "
         elif outcome.word == NO_VERDICT:
             self._notify({"level": "error", "message": {"text": reason_text(outcome)}, "locations": [location]})
+        elif outcome.word == OTHER_KIND:
+            self._notify({"level": "warning", "message": {"text": found_text(outcome)}, "locations": [location]})
 
     def _notify(self, fault: Dict[str, Any]) -> None:
         before = ",\n            " if self.faults else "\n            "

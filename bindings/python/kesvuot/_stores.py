@@ -6,8 +6,8 @@
 from __future__ import annotations
 
 import argparse
+import os
 from contextlib import contextmanager
-from itertools import chain
 from typing import Any, Callable, Iterator
 
 from ._check import Choice, Outcome, judge_all, targets_of
@@ -54,18 +54,20 @@ def for_store(choice: Choice, words: argparse.Namespace) -> Choice:
         return choice
     from ._manifest import Baseline, conditions
     path = words.baseline or words.since
-    known = Baseline(path, conditions(choice), trusts_stamps=bool(words.since)) if path else None
+    known = Baseline(path, conditions(choice), bool(words.since), os.getcwd()) if path else None
     return choice._replace(identifies=True, known=known)
 
 
 def outcomes_of(words: argparse.Namespace, choice: Choice) -> Iterator[Outcome]:
     """The outcomes of all files that the words name."""
-    listed = names_in(words.files_from, b"\0" if words.null else b"\n") if words.files_from else ()
-    paths = chain(words.paths, listed)
-    if not words.cluster:
-        return judge_all(paths, choice, words.jobs)
-    from ._cluster import judge_on_cluster
-    return judge_on_cluster(targets_of(paths, choice), choice, words.cluster, is_ordered=words.format != "jsonl")
+    listed = names_in(words.files_from, b"\0" if words.null else b"\n") if words.files_from else None
+    if words.cluster:
+        from ._cluster import judge_on_cluster
+        outcomes = judge_on_cluster(targets_of(words.paths, choice, listed), choice, words.cluster,
+                                    is_ordered=words.format != "jsonl")
+    else:
+        outcomes = judge_all(words.paths, choice, words.jobs, listed)
+    return choice.known.with_missing(outcomes, choice) if choice.known else outcomes
 
 
 @contextmanager

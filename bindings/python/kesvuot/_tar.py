@@ -13,8 +13,8 @@ BLOCK_SIZE = 512
 MOST_EXTENDED = 1 << 20
 # The digits of the largest number of 64 bits.
 MOST_DIGITS = 20
-NAME, SIZE, CHECKSUM, TYPE, MAGIC, PREFIX = (
-    slice(0, 100), slice(124, 136), slice(148, 156), slice(156, 157), slice(257, 263), slice(345, 500))
+NAME, MODE, SIZE, CHECKSUM, TYPE, MAGIC, PREFIX = (
+    slice(0, 100), slice(100, 108), slice(124, 136), slice(148, 156), slice(156, 157), slice(257, 263), slice(345, 500))
 USTAR = b"ustar\0"
 # The bytes that say, in GNU's form, that a sparse file has one more block of header: of the header, and of a block.
 MORE_SPARSE, MORE_OF_SPARSE = 482, 504
@@ -29,12 +29,13 @@ PATH, WIDE_SIZE, SPARSE_NAME, SPARSE_KEYS = "path", "size", "GNU.sparse.name", "
 
 class TarMember(NamedTuple):
     """A member. Without a stream it is a link, a device or a pipe. `packed` is where it is in the source of the
-    archive, if that can be read at any offset."""
+    archive, if that can be read at any offset. `mode` has the bits of who may do what."""
 
     name: str
     stream: Optional[Stream] = None
     packed: Optional[Packed] = None
     fault: str = ""
+    mode: int = 0
 
 
 def is_tar(head: bytes) -> bool:
@@ -72,7 +73,9 @@ def tar_members(archive: Stream) -> Iterator[TarMember]:
     for_all: Dict[str, str] = {}
     own: Dict[str, str] = {}
     while True:
-        block = read_exactly(archive, BLOCK_SIZE) if archive.peek(1) else b""
+        if not archive.peek(1):
+            raise Unread("it has no end: it is cut between two members")
+        block = read_exactly(archive, BLOCK_SIZE)
         if not block.strip(b"\0"):
             # The end. Other readers stop at the first block of zeros too.
             return
@@ -105,7 +108,7 @@ def _member(archive: Stream, block: bytes, said: Dict[str, str]) -> Iterator[Tar
     elif kind in WITHOUT_DATA - NO_MEMBER:
         yield TarMember(name)
     elif not is_folder:
-        yield TarMember(name, stream, packed)
+        yield TarMember(name, stream, packed, mode=_mode(block))
     _skip(archive, stream, size)
 
 
@@ -138,6 +141,13 @@ def _size(block: bytes, said: Optional[str] = None) -> int:
     if size < 0:
         raise Unread("the size of a member is negative")
     return size
+
+
+def _mode(block: bytes) -> int:
+    try:
+        return _number(block[MODE]) & 0o777
+    except ValueError:
+        return 0
 
 
 def _name(block: bytes) -> str:

@@ -8,15 +8,15 @@ import argparse
 import os
 import signal
 import sys
-from typing import TYPE_CHECKING, Any, Callable, Counter, Dict, Iterator, List, NamedTuple, Optional
+from typing import TYPE_CHECKING, Any, Callable, Dict, Iterator, List, NamedTuple, Optional
 
 from . import _check, _policy_reports, library_version
 from ._archives import MOST_UNPACKED
 from ._check import (
-    ACCEPTED, NO_VERDICT, NOT_BY_POLICY, OTHER_KIND, REFUSED, Choice, Outcome, Stopped, Summary, without_match)
+    ACCEPTED, NO_VERDICT, NOT_BY_POLICY, REFUSED, Choice, Outcome, Stopped, Summary, without_match)
 from ._interrupts import Interrupts, end_at_interrupts
 from ._output import (
-    GREEN, RED, STANDARD_OUTPUT, YELLOW, Output, coloured, columns, end_by, open_errors, say, write_failed)
+    GREEN, RED, STANDARD_OUTPUT, YELLOW, Cells, Output, coloured, columns, end_by, open_errors, say, write_failed)
 from ._profiles import DEFAULT, PROFILES
 from ._progress import Progress, is_terminal
 from ._pages import PAGES
@@ -34,8 +34,9 @@ STATUSES = """\
 statuses:
   0    all files are accepted, or their refusals are known; of diff, the layouts are the same
   1    a file is refused or not by the policy, and none is without a verdict; of diff, the layouts differ
-  2    a file has no verdict, for example because it cannot be read; of diff, a file is not accepted; the words are
-       wrong; nothing could be written; or not all files were judged
+  2    a file has no verdict, for example because it cannot be read, or is named and no Mach-O file; no file was judged,
+       or fewer than --expect; of diff, a file is not accepted; the words are wrong; nothing could be written; or not
+       all files were judged
   130  Control-C; 143 is SIGTERM, and 129 SIGHUP
   141  nobody reads the output any more, as after head
 """
@@ -44,6 +45,7 @@ EXAMPLES = {
     "check": """\
   kesvuot check program                          one file
   kesvuot check --profile strict dist            all Mach-O files of a folder, by the strict profile
+  kesvuot check dist dist/program                the same, and fail if dist/program is none
   kesvuot check --profile sealed dist            whether code signatures still match the bytes
   kesvuot check --exclude '*.class' -q build     only those that are not accepted
   kesvuot check App.ipa dist.tar.xz              the members of archives
@@ -76,8 +78,9 @@ EXAMPLES = {
 
 
 class Text(Report):
-    """A line for each file, or for each key of the policy that it does not meet, and the summary: the counts, and
-    tables of the rules and of the keys if there are several. What has no verdict is told on standard error."""
+    """A line for each file, or for each key of the policy that it does not meet, and the summary: the counts, a table
+    of what was found and is of another kind, and tables of the rules and of the keys if there are several. What has no
+    verdict is told on standard error."""
 
     is_whole = False
 
@@ -93,21 +96,23 @@ class Text(Report):
             for line in _policy_reports.lines(outcome):
                 words, colon, rest = line.partition(":")
                 self.write(f"{shown(outcome.path)}: {coloured(words, RED, sys.stdout)}{colon}{rest}\n")
-        elif outcome.word == OTHER_KIND and not self.is_quiet:
-            self.write(f"{shown(outcome.path)}: {outcome.kind}, not judged\n")
         elif outcome.word == ACCEPTED and not self.is_quiet:
             self.write(f"{shown(outcome.path)}: {coloured(ACCEPTED, GREEN, sys.stdout)}\n")
 
     def end(self, summary: Summary) -> None:
-        if not self.is_quiet:
-            self.write(f"{summary}\n")
-            self._write_table("rule", "refused files", summary.rules)
-            self._write_table("key", "files", summary.keys)
+        if self.is_quiet:
+            return
+        self.write(f"{summary}\n")
+        found: List[Cells] = [(shown(it.path), str(it.kind)) for it in summary.found]
+        more: List[Cells] = [(f"and {summary.more_found} more",)] if summary.more_found else []
+        self._write_table(("not judged", "kind"), found + more)
+        for head, counts in ((("rule", "refused files"), summary.rules), (("key", "files"), summary.keys)):
+            if len(counts) > 1:
+                self._write_table(head, [(each, str(count)) for each, count in counts.most_common()])
 
-    def _write_table(self, name: str, files: str, counts: Counter[str]) -> None:
-        if len(counts) > 1:
-            rows = [(name, files), *((each, str(count)) for each, count in counts.most_common())]
-            self.write("\n" + "".join(f"{line}\n" for line in columns(lambda: iter(rows))))
+    def _write_table(self, head: Cells, rows: List[Cells]) -> None:
+        if rows:
+            self.write("\n" + "".join(f"{line}\n" for line in columns(lambda: iter([head, *rows]))))
 
 
 # check
@@ -126,7 +131,8 @@ def check(words: argparse.Namespace) -> int:
     choice = for_store(Choice(
         words.profile, include=tuple(words.include), exclude=tuple(words.exclude),
         skips_other_kinds=words.skip_other_kinds, fails_other_kinds=words.fail_other_kinds,
-        refuses_unsupported=words.no_unsupported_slices, maps=words.mmap, opens_found=words.archives,
+        refuses_unsupported=words.no_unsupported_slices, allows_none=words.allow_none, maps=words.mmap,
+        opens_found=words.archives,
         most_unpacked=words.max_unpacked, of_refused=report.of_refused, policy=policy), words)
     report.has_baseline = choice.known is not None
     outcomes = outcomes_of(words, choice)
@@ -139,7 +145,7 @@ def check(words: argparse.Namespace) -> int:
         interrupts.watch()
     try:
         with manifest_of(words, choice) as keep:
-            return _report_all(interrupts, outcomes, choice, Listeners(report, output, progress, keep))
+            return _report_all(interrupts, outcomes, choice, words.expect, Listeners(report, output, progress, keep))
     except Failed as failed:
         say(failed.summary.fault)
         if failed.summary.signal:
@@ -179,12 +185,15 @@ class Listeners(NamedTuple):
     keep: Callable[[Outcome], None]
 
     def add(self, outcome: Outcome) -> None:
-        """Tells of a file."""
+        """Tells of a file. Another name of one that was met before is of interest to the manifest alone."""
+        if outcome.is_counted or (outcome.again and outcome.again.is_new):
+            self.keep(outcome)
+        if not outcome.is_counted:
+            return
         if outcome.word == NO_VERDICT and isinstance(self.report, Text):
             self.progress.clear()
             say(f"{shown(outcome.path)}: {coloured(outcome.reason, YELLOW, sys.stderr)}")
         self.report.add(outcome)
-        self.keep(outcome)
 
     def end(self, summary: Summary) -> None:
         """Tells of the run."""
@@ -193,13 +202,17 @@ class Listeners(NamedTuple):
         self.output.flush()
 
 
-def _report_all(interrupts: Interrupts, outcomes: Iterator[Outcome], choice: Choice, told: Listeners) -> int:
+def _report_all(interrupts: Interrupts, outcomes: Iterator[Outcome], choice: Choice, expected: Optional[int],
+                told: Listeners) -> int:
     summary, unmatched = Summary(told.report.policy is not None), list(choice.include)
     told.report.begin()
     try:
         for outcome in interrupts.until(outcomes):
-            summary.add(outcome)
-            unmatched = without_match(unmatched, outcome.path)
+            if outcome.is_counted:
+                summary.add(outcome)
+            # A link has such a name too, and is not judged.
+            if outcome.is_judged or outcome.word == NO_VERDICT:
+                unmatched = without_match(unmatched, outcome.path)
             told.add(outcome)
             told.progress.show(summary.files, summary.size)
     except Stopped as stopped:
@@ -210,6 +223,10 @@ def _report_all(interrupts: Interrupts, outcomes: Iterator[Outcome], choice: Cho
         summary.end_early("interrupted" if number == signal.SIGINT else f"ended by {name}", number)
     elif unmatched and not summary.fault:
         summary.fail(f"--include {printable(', '.join(unmatched))}: no file to judge has such a name")
+    elif expected and not summary.fault:
+        summary.expect(expected)
+    elif not (choice.allows_none or summary.words[NO_VERDICT] or summary.fault):
+        summary.expect(1)
     told.end(summary)
     if summary.fault:
         raise Failed(summary)
@@ -272,12 +289,16 @@ gzip, bzip2 or xz) it judges the members, in memory: nothing is written.""")
                         help="in folders and archives, leave out files and folders with such a name; a pattern with a "
                         "slash must match the whole path")
     parser.add_argument("--archives", action="store_true", help="in folders, judge the members of archives too")
+    counts = parser.add_mutually_exclusive_group()
+    counts.add_argument("--expect", type=_positive, metavar="N", help="fail if fewer than N files are judged")
+    counts.add_argument("--allow-none", action="store_true",
+                        help="do not fail if no file is judged, or none in an archive")
     parser.add_argument("--max-unpacked", type=_size, default=MOST_UNPACKED, metavar="SIZE",
                         help="the most bytes to unpack of an archive (default: 16G)")
     kinds = parser.add_mutually_exclusive_group()
     kinds.add_argument("--fail-other-kinds", action="store_true",
                        help="refuse files in folders and archives that say they are of another kind, such as object "
-                       "files. Otherwise they are counted apart")
+                       "files. Otherwise they are counted and named")
     kinds.add_argument("--skip-other-kinds", action="store_true",
                        help="skip such files, also those that are named")
     parser.add_argument("--no-unsupported-slices", action="store_true",

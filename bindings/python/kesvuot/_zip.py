@@ -15,7 +15,7 @@ END, MOST_COMMENT = struct.Struct("<4s4H2LH"), 0xFFFF
 END_64, POINTER_64 = struct.Struct("<4sQ2H2L4Q"), struct.Struct("<4sLQL")
 END_64_BEGINNING, POINTER_64_BEGINNING = b"PK\6\6", b"PK\6\7"
 # The entry of a member in the directory, and the header before its data.
-CENTRAL, LOCAL = struct.Struct("<4s4xHH4xL2L3H8xL"), struct.Struct("<4s2xHH4x12x2H")
+CENTRAL, LOCAL = struct.Struct("<4s4xHH4xL2L3H4x2HL"), struct.Struct("<4s2xHH4x12x2H")
 CENTRAL_BEGINNING = b"PK\1\2"
 EXTRA, WIDE_EXTRA = struct.Struct("<2H"), 1
 # In place of a number that zip64 has among the extra fields.
@@ -34,7 +34,7 @@ class Directory(NamedTuple):
 
 
 class ZipMember(NamedTuple):
-    """A member by the directory."""
+    """A member by the directory. Its mode is that of a file system, or 0 where the archive was made on one without."""
 
     name: str
     raw_name: bytes
@@ -44,6 +44,7 @@ class ZipMember(NamedTuple):
     packed_size: int
     size: int
     header: int
+    mode: int
 
     def place(self, archive: Window) -> Packed:
         """Where its data is in the source of the archive."""
@@ -131,11 +132,11 @@ def _next_member(entries: Flow, base: int) -> ZipMember:
     head = read_exactly(entries, CENTRAL.size)
     if not head.startswith(CENTRAL_BEGINNING):
         raise Unread("its directory is broken")
-    _, flags, method, crc, packed_size, size, *sizes, header = CENTRAL.unpack(head)
+    _, flags, method, crc, packed_size, size, *sizes, _, mode, header = CENTRAL.unpack(head)
     name, extra, _ = (read_exactly(entries, it) for it in sizes)
     if WIDE in (packed_size, size, header):
         size, packed_size, header = _wide(extra, [size, packed_size, header])
-    return ZipMember(_text(name), name, flags, method, crc, packed_size, size, base + header)
+    return ZipMember(_text(name), name, flags, method, crc, packed_size, size, base + header, mode)
 
 
 def _wide(extra: bytes, numbers: List[int]) -> List[int]:
