@@ -8,15 +8,16 @@ _kesvuot() {
     case $previous in
         --profile) words="layout strict linked unambiguous sealed" ;;
         --format) words="text json jsonl sarif junit github" ;;
-        --include | --exclude | --jobs | --max-unpacked | --rules-url | --cluster) return ;;
+        --include | --exclude | --expect | --jobs | --max-unpacked | --rules-url | --cluster) return ;;
         *)
             if ((COMP_CWORD == 1)) && [[ $current != */* ]]; then
                 words="check explain show diff map policy --help --version"
             elif [[ $current == -* ]]; then
                 case ${COMP_WORDS[1]} in
-                    check) words="--archives --baseline --cluster --exclude --fail-other-kinds --files-from --format
-                        --help --include --jobs --manifest --max-unpacked --mmap --no-progress --no-unsupported-slices
-                        --null --policy --profile --quiet --rules-url --since --skip-other-kinds" ;;
+                    check) words="--allow-none --archives --baseline --cluster --exclude --expect --fail-other-kinds
+                        --files-from --format --help --include --jobs --manifest --max-unpacked --mmap --no-progress
+                        --no-unsupported-slices --null --policy --profile --quiet --rules-url --since
+                        --skip-other-kinds" ;;
                     explain) words="--help --json --profile --rules-url" ;;
                     show) words="--all --help --json --profile --rules-url" ;;
                     diff | policy) words="--help --json --profile" ;;
