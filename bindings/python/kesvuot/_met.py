@@ -12,6 +12,8 @@ from ._table import Table
 BITS = (1 << 63) - 1
 # Of the number of a file: it was named, and not only found in a folder.
 NAMED = 1
+# Odd, so that no two inodes have one key, whatever bits of them differ.
+SPREAD = 0x9E3779B97F4A7C15
 STANDARD_INPUT = "-"
 
 
@@ -80,5 +82,6 @@ def _known(path: str, is_found: bool = False) -> Optional[os.stat_result]:
 
 
 def _key(known: os.stat_result) -> Tuple[int, int]:
+    spread = known.st_ino * SPREAD % (1 << 64)
     number: int = hash((known.st_dev, stamp_of(known))) & BITS
-    return known.st_ino, (number | NAMED << 1) & ~NAMED
+    return spread ^ spread >> 32, (number | NAMED << 1) & ~NAMED
