@@ -286,7 +286,7 @@ def open_archives(targets: Iterator[Target], choice: Choice, leaves_packed: bool
                 # When it was found, it was not opened.
                 target = target._replace(again=None)
             # No name here has a member, which can be large.
-            yield from map(partial(_target_of, choice, target), found.members(wanted, allowance))
+            yield from filter(None, map(partial(_target_of, choice, target), found.members(wanted, allowance)))
             if not (found.has_image or target.is_found or choice.allows_none):
                 yield target._replace(outcome=Outcome(target.path, NO_VERDICT, reason=NO_IMAGE))
         elif isinstance(found, Begun):
@@ -305,12 +305,15 @@ def count_files(paths: Sequence[str], choice: Choice) -> int:
     return total
 
 
-def _target_of(choice: Choice, archive: Target, member: Member) -> Target:
-    """A member is found, unless it is the file that the user has named, which is only compressed."""
+def _target_of(choice: Choice, archive: Target, member: Member) -> Optional[Target]:
+    """A member is found, unless it is the file that the user has named, which is only compressed. None if it is only
+    compressed, and not asked for."""
     path, is_found = member.path, archive.is_found or member.path != archive.path
     outcome = None
     if member.fault:
         outcome = Outcome(path, NO_VERDICT, reason=_reason(member.fault))
+    elif member.kind and is_found and not is_asked_for(choice, path):
+        return None
     elif member.kind:
         outcome = _chosen(Outcome(path, REFUSED, rule="magic", kind=member.kind), is_found, choice)
     elif member.contents is None:
