@@ -3,7 +3,7 @@
 from __future__ import annotations
 
 from functools import cached_property
-from typing import Any, Dict, Iterator, List, NamedTuple, Optional, Tuple
+from typing import Any, Dict, Iterator, List, NamedTuple, Optional, Tuple, Union
 
 from ._explanation import Explanation, Part as FilePart
 from ._files import Refused
@@ -56,6 +56,11 @@ DIRECTORY_FIELDS = {
     "signature-hash": "hashOffset nSpecialSlots nCodeSlots codeLimit hashSize hashType pageSize",
     "directory-agree": "flags identOffset codeLimit hashType platform pageSize teamOffset codeLimit64 execSegBase "
                        "execSegLimit execSegFlags runtime"}
+# The fields of names, whose values are texts; and which of them each part has in a rule of names.
+TEXT_FIELDS = ("segname", "sectname")
+NAME_FIELDS = {
+    "segment-name": {"segment": "segname", "segment-memory": "segname vmaddr vmsize", "name": "segname"},
+    "section-name": {"section": "sectname segname", "name": "segname"}}
 GROUP_FIELDS = ("ilocalsym nlocalsym", "iextdefsym nextdefsym", "iundefsym nundefsym")
 # Those that a rule reads besides: of the structure at the place, and of that of the second part.
 MORE_FIELDS: Dict[str, Tuple[str, str]] = {
@@ -80,7 +85,6 @@ MORE_FIELDS: Dict[str, Tuple[str, str]] = {
     **dict.fromkeys(("thread", "command-content", "command-known"), ("cmd cmdsize", "")),
     "fat-count": ("nfat_arch", ""), "fat-header": ("cputype cpusubtype", "magic cputype cpusubtype"),
     "fat-page": ("cputype offset size", "offset"), "command-once": ("cmd platform", "cmd platform"),
-    "segment-name": ("vmaddr", "vmaddr"),
     "segment-page": ("vmaddr vmsize fileoff filesize", ""), "segment-protection": ("vmsize maxprot initprot", ""),
     "bytes-encrypted": ("cryptid flags", ""), "number-shift": ("cmd vmsize", "cmd vmsize initprot"),
     "section-alone": ("flags", ""),
@@ -282,7 +286,11 @@ class Case:
         return TABLES[self._command(part.described)[0]][part.index or 0]
 
     def _fields(self, part: FilePart, structure: str) -> str:
-        """The fields that say where a part is."""
+        """The fields that say where a part is; or what it is called, if that is what the rule is about. Of a name with
+        a byte after its end no field is wrong."""
+        first = self.explanation.first
+        if self.rule in NAME_FIELDS:
+            return "" if first and first.kind == "byte" else NAME_FIELDS[self.rule].get(part.kind, "")
         if part.kind == "table":
             return f"{self._table(part).start} {self._table(part).count}"
         if part.kind == "group":
@@ -313,8 +321,8 @@ class Case:
         structure, start, _ = self.spots[spot]
         return number_in(self.data[start:start + size_of(structure)], structure, name)
 
-    def fields(self, spot: Spot) -> Iterator[Tuple[str, int, int, int]]:
-        """The fields of a structure: the name, the place in the file, the size, and the number of each."""
+    def fields(self, spot: Spot) -> Iterator[Tuple[str, int, int, Union[int, str]]]:
+        """The fields of a structure: the name, the place in the file, the size, and the number or the text of each."""
         data = self.data[spot.start:spot.start + size_of(spot.structure)]
         size = len(data)
         if spot.structure == "CS_CodeDirectory" and self.rule == "directory-agree":
@@ -322,7 +330,14 @@ class Case:
         for name in spot.fields:
             field = field_of(spot.structure, name)
             if field.start + field.width <= size:
-                yield name, spot.start + field.start, field.width, number_in(data, spot.structure, name)
+                text = padded(data[field.start:field.start + field.width])
+                yield name, spot.start + field.start, field.width, \
+                    text if name in TEXT_FIELDS else number_in(data, spot.structure, name)
+
+
+def padded(name: memoryview) -> str:
+    """A name of 16 bytes, without the zeros after it."""
+    return plain(memoryview(bytes(name).rstrip(b"\0")))
 
 
 def cut(text: str) -> str:

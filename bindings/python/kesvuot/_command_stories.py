@@ -5,6 +5,7 @@ from __future__ import annotations
 import re
 from typing import Dict, List, NamedTuple
 
+from ._dump import Mark
 from ._names import count_text
 from ._parts import matches, walk_commands
 from ._structures import number_in, size_of
@@ -20,15 +21,17 @@ X86_THREAD_STATE64, X86_THREAD_STATE, ARM_THREAD_STATE64 = 4, 7, 6
 
 
 class Registers(NamedTuple):
-    """A state that has registers: how many words it has, and the offset of the address at which the thread begins."""
+    """A state that has registers: how many words it has, and the offset and the name of the register with the address
+    at which the thread begins."""
 
     words: int
     entry: int
+    name: str
 
 
 REGISTERS: Dict[int, Dict[int, Registers]] = {
-    X86_64: {X86_THREAD_STATE64: Registers(42, 128), X86_THREAD_STATE: Registers(44, 136)},
-    ARM64: {ARM_THREAD_STATE64: Registers(68, 256)}}
+    X86_64: {X86_THREAD_STATE64: Registers(42, 128, "rip"), X86_THREAD_STATE: Registers(44, 136, "rip")},
+    ARM64: {ARM_THREAD_STATE64: Registers(68, 256, "pc")}}
 
 
 class Held(NamedTuple):
@@ -56,11 +59,13 @@ NONZERO = re.compile(rb"[^\0]+")
 
 
 class State(NamedTuple):
-    """A state of a thread: its flavor, how many words it should have, and those that are in the command."""
+    """A state of a thread: its flavor, how many words it should have, those that are in the command, and where in the
+    command it begins."""
 
     flavor: int
     count: int
     words: bytes
+    place: int
 
     @property
     def is_cut(self) -> bool:
@@ -74,7 +79,7 @@ def _states(data: bytes) -> List[State]:
     while place < len(data):
         flavor, count = (int.from_bytes(data[at:at + 4], "little") for at in (place, place + 4))
         is_whole = place + 8 <= len(data)
-        states.append(State(flavor, count if is_whole else 1, data[place + 8:place + 8 + 4 * count]))
+        states.append(State(flavor, count if is_whole else 1, data[place + 8:place + 8 + 4 * count], place))
         place += 8 + 4 * count
     return states
 
@@ -84,26 +89,35 @@ def thread(it: Teller) -> Story:
         return it.story(f"{it.at} is a second thread: {it.second} is one too.")
     states = _states(bytes(it.case.data[it.at_part.start:it.at_part.end]))
     if any(state.is_cut for state in states):
-        return it.story(f"the states of {it.at} do not end with it: the last one goes past its end.", "cmdsize")
+        return it.story(f"the states of {it.at} do not end with it: the last one goes past its end.", "cmdsize").marking(
+            _head(it, states[-1]))
     known = REGISTERS.get(number_in(it.case.data[it.case.slice.start:], "mach_header_64", "cputype"), {})
     found = [state for state in states if state.flavor in known]
     if len(found) != 1:
         what = f"{len(found)} states with registers, and a thread has one" if found else \
             "no state with registers that are known of this processor"
-        return it.story(f"{it.at} has {what}.")
+        return it.story(f"{it.at} has {what}.").marking(*(_head(it, state) for state in states))
     return _registers(it, found[0], known[found[0].flavor])
+
+
+def _head(it: Teller, state: State) -> Mark:
+    start = it.at_part.start + state.place
+    return Mark(start, min(8, it.at_part.end - start), f"flavor {state.flavor}, count {state.count}")
 
 
 def _registers(it: Teller, state: State, known: Registers) -> Story:
     if state.count != known.words:
         return it.story(f"the state of flavor {state.flavor} in {it.at} has {count_text(state.count, 'word')}, and one "
-                        f"has {known.words}.")
+                        f"has {known.words}.").marking(_head(it, state))
     inner = tuple(int.from_bytes(state.words[at:at + 4], "little") for at in (0, 4))
     if state.flavor == X86_THREAD_STATE and inner != (X86_THREAD_STATE64, REGISTERS[X86_64][X86_THREAD_STATE64].words):
         return it.story(f"the state of flavor {state.flavor} in {it.at} has one of flavor {inner[0]} with "
-                        f"{count_text(inner[1], 'word')} inside, which is not known.")
+                        f"{count_text(inner[1], 'word')} inside, which is not known.").marking(_head(it, state))
     entry = int.from_bytes(state.words[known.entry:known.entry + 8], "little")
-    return it.story(f"{it.at} begins at address {entry:#x}, where no executable segment has a byte of the file.")
+    place = it.at_part.start + state.place + 8 + known.entry
+    return it.story(f"{it.at} begins at the address in its register {known.name}, {entry:#x}, where no executable "
+                    f"segment has a byte of the file. The register is at {place:#x}.").marking(
+        Mark(place, 8, f"{known.name} {entry:#x}"))
 
 
 class Content:
@@ -115,12 +129,17 @@ class Content:
         self.cmd = self.word(0)
         self.held = HELD[self.cmd]
         self.claimed = [(0, self.held.size)]
+        self.marks: List[Mark] = []
 
     def word(self, offset: int) -> int:
         return int.from_bytes(self.data[offset:offset + 4], "little")
 
+    def see(self, offset: int, size: int, name: str) -> None:
+        """Marks bytes of the command that a fault is about."""
+        self.marks.append(Mark(self.it.at_part.start + offset, size, name))
+
     def fault(self) -> str:
-        """What is wrong with it, as a part of a sentence."""
+        """What is wrong with it, as a part of a sentence. The bytes are marked."""
         return (self.name() or self.span() or self.bits() or self.strings() or self.options() or self.stray()
                 or self.routine())
 
@@ -129,19 +148,25 @@ class Content:
             return ""
         start = self.word(8)
         if start < self.held.size:
+            self.see(8, 4, f"name offset {start}")
             return f"has the offset {start} of its name, inside its structure of {self.held.size} bytes"
         end = self.data.find(0, start)
         if end < 0:
+            self.see(8, 4, f"name offset {start}")
             return f"has a name at offset {start} that does not end in it"
         self.claimed.append((start, end + 1))
         return ""
 
     def span(self) -> str:
-        size, whole = self.word(12) * self.held.item, self.it.case.slice.size
-        end = self.word(8) + size
-        if size == 0 or end <= whole:
+        start, count, whole = self.word(8), self.word(12), self.it.case.slice.size
+        end = start + count * self.held.item
+        if count * self.held.item == 0 or end <= whole:
             return ""
-        return f"names bytes that end at {end:#x}, past the end of {self.it.whole}, {whole:#x}"
+        self.see(8, 4, f"offset {start:#x}")
+        self.see(12, 4, f"count {count}")
+        items = f"{count_text(count, 'item')} of {self.held.item} bytes" if self.held.item > 1 else count_text(count, "byte")
+        return (f"names a range of {items} from {start:#x} on, which ends at {end:#x}, past the end of {self.it.whole}, "
+                f"{whole:#x}")
 
     def bits(self) -> str:
         """Those of an LC_PREBOUND_DYLIB: one for each module of the library."""
@@ -152,6 +177,8 @@ class Content:
         self.claimed.append((start, end))
         if modules == 0 or (self.held.size <= start and end <= len(self.data)):
             return ""
+        self.see(12, 4, f"count {modules}")
+        self.see(16, 4, f"offset {start}")
         return f"has bits for {count_text(modules, 'module')} at offset {start}, not all in it and past its structure"
 
     def strings(self) -> str:
@@ -159,8 +186,10 @@ class Content:
         if self.cmd != LC_IDENT:
             return ""
         self.claimed.append((self.held.size, len(self.data)))
-        is_ended = self.data[self.held.size:][-1:] in (b"", b"\0")
-        return "" if is_ended else "has strings of which the last does not end in it"
+        if self.data[self.held.size:][-1:] in (b"", b"\0"):
+            return ""
+        self.see(len(self.data) - 1, 1, "the last byte")
+        return "has strings of which the last does not end in it"
 
     def options(self) -> str:
         """Those of an LC_LINKER_OPTION, as many as it counts."""
@@ -170,6 +199,7 @@ class Content:
         for number in range(wanted):
             zero = self.data.find(0, end)
             if zero < 0:
+                self.see(8, 4, f"count {wanted}")
                 return f"counts {count_text(wanted, 'string')}, and {number} of them end in it"
             end = zero + 1
         self.claimed.append((self.held.size, end))
@@ -179,6 +209,7 @@ class Content:
         place = 0
         for start, end in (*sorted(self.claimed), (len(self.data), 0)):
             for offset, _ in matches(NONZERO, memoryview(self.data), (place, start)):
+                self.see(offset, 1, f"byte {self.data[offset]:02x}")
                 return f"has the byte {self.data[offset]:02x} at offset {offset}, which is in none of its parts"
             place = max(place, end)
         return ""
@@ -189,6 +220,7 @@ class Content:
         address = int.from_bytes(self.data[8:8 + width], "little")
         if self.is_second():
             return "is a second routine, and an image has one"
+        self.see(8, width, f"address {address:#x}")
         return f"calls the address {address:#x}, where no executable segment has a byte of the file"
 
     def is_second(self) -> bool:
@@ -206,4 +238,5 @@ def command_content(it: Teller) -> Story:
     if it.value < it.limit:
         return it.story(f"{it.at} has a cmdsize of {it.value}, and its structure has {it.limit} bytes.", "cmdsize",
                         "size of the structure")
-    return it.story(f"{it.at} {Content(it).fault()}.", "cmdsize")
+    content = Content(it)
+    return it.story(f"{it.at} {content.fault()}.", "cmdsize").marking(*content.marks)

@@ -17,7 +17,7 @@ from ._command_stories import HELD
 from ._explanation import Part as FilePart
 from ._files import ARCHITECTURES, File, Image
 from ._names import command_name
-from ._output import GREEN, RED, Output, coloured, columns, say
+from ._output import GREEN, RED, Output, coloured, say
 from ._pages import PAGES
 from ._parts import image_parts, slices_of
 from ._profiles import PROFILES, later
@@ -32,6 +32,8 @@ from .constants import LC_THREAD, LC_UNIXTHREAD
 EXPLAIN_VERSION = 1
 # Texts are at most so wide. What is shown of bytes may be wider.
 WIDTH = 80
+# The name of a row is at most so wide.
+NAME_WIDTH = 40
 # So many bytes are shown of a command with a name, and before and after bytes that are no structure.
 SHOWN_OF_COMMAND, SHOWN_BEFORE, SHOWN_AFTER = 128, 16, 32
 MEMORY = frozenset(("segment-memory", "section-memory"))
@@ -134,8 +136,8 @@ def _refused(outcome: Outcome, _profile: str) -> Iterator[str]:
         if told.case.counts_from_slice:
             yield from _wrapped(f"Offsets in fields count from the start of the slice, {told.case.slice.start:#x}.", "")
         yield ""
-        yield from columns(lambda: iter(_rows(told)))
-        for heading, start, end, marks in _dumps(told.case):
+        yield from _table(_rows(told))
+        for heading, start, end, marks in _dumps(told):
             yield ""
             yield f"{heading}:"
             yield ""
@@ -201,6 +203,16 @@ def _holders(case: Case) -> Iterator[Tuple[str, FilePart]]:
         yield case.name(it.at), it.at
 
 
+def _table(rows: Rows) -> Iterator[str]:
+    """Rows of a name and a text. A long name has lines of its own."""
+    width = max(len(name) for name, _ in rows if len(name) <= NAME_WIDTH)
+    for name, text in rows:
+        if len(name) > NAME_WIDTH:
+            yield from _wrapped(name, "  ", "    ")
+            name = ""
+        yield from _wrapped(text, f"  {name:{width}}  ", " " * (width + 4))
+
+
 def _range(part: FilePart) -> str:
     """The bytes of a part, its addresses, or the symbols that it has."""
     what = "addresses" if part.kind in MEMORY else "symbols" if part.kind == "group" else "bytes"
@@ -209,19 +221,29 @@ def _range(part: FilePart) -> str:
     return f"{what} {part.start:#x} up to {part.end:#x}"
 
 
-def _dumps(case: Case) -> Iterator[Tuple[str, int, int, List[Mark]]]:
+def _dumps(told: Told) -> Iterator[Tuple[str, int, int, List[Mark]]]:
     """What is shown of the bytes: a heading, where they begin and end, and what is marked. What is at the place comes
-    first, and then each other structure whose fields the rule reads."""
+    first, then each other structure whose fields the rule reads, and then what else the sentence is about."""
+    case, left = told.case, list(told.story.marks)
     at = case.explanation.at
     if not any(spot.start == at.start for spot in case.spots):
-        start = max(at.start - SHOWN_BEFORE, 0)
-        yield f"bytes at {at.start:#x}", start, at.start + SHOWN_AFTER, [Mark(at.start, at.size, case.name(at))]
+        yield _bytes_at(Mark(at.start, at.size, case.name(at)))
     for spot in case.spots:
         end = spot.start + size_of(spot.structure)
         if case.rule == "name" and spot.start == at.start:
             end = min(max(end, at.end), spot.start + SHOWN_OF_COMMAND)
-        yield (f"{spot.structure} at {spot.start:#x}", spot.start, end,
-               [Mark(place, size, f"{name} {number:#x}") for name, place, size, number in case.fields(spot)])
+        near = [mark for mark in left if spot.start <= mark.start < spot.start + SHOWN_OF_COMMAND]
+        left = [mark for mark in left if mark not in near]
+        fields = [Mark(place, size, f'{name} "{value}"' if isinstance(value, str) else f"{name} {value:#x}")
+                  for name, place, size, value in case.fields(spot)]
+        yield (f"{spot.structure} at {spot.start:#x}", spot.start, max(end, *(mark.start + mark.size for mark in near), 0),
+               fields + near)
+    yield from map(_bytes_at, left)
+
+
+def _bytes_at(mark: Mark) -> Tuple[str, int, int, List[Mark]]:
+    """Bytes that are in no structure, with some around them."""
+    return f"bytes at {mark.start:#x}", max(mark.start - SHOWN_BEFORE, 0), mark.start + SHOWN_AFTER, [mark]
 
 
 # JSON
@@ -245,8 +267,9 @@ def _told_object(told: Told) -> Dict[str, Any]:
             "second": _part_object(case, it.second), "value": it.value, "limit": it.limit,
             **{name: holders.get(name) for name in ("slice", "command", "section", "symbol")},
             "numbers": [{"name": name, "value": number} for name, number in told.story.numbers],
-            "fields": [{"structure": spot.structure, "name": name, "place": place, "size": size, "value": number}
-                       for spot in case.spots for name, place, size, number in case.fields(spot)]}
+            "fields": [{"structure": spot.structure, "name": name, "place": place, "size": size, "value": value}
+                       for spot in case.spots for name, place, size, value in case.fields(spot)],
+            "marks": [{"name": mark.name, "place": mark.start, "size": mark.size} for mark in told.story.marks]}
 
 
 def _part_object(case: Case, part: Optional[FilePart]) -> Optional[Dict[str, Any]]:

@@ -4,7 +4,8 @@ from __future__ import annotations
 
 from typing import Dict, Iterator, List, Optional, Tuple
 
-from ._case import GROUPS, cut
+from ._case import GROUPS, cut, padded
+from ._dump import Mark
 from ._explanation import Part as FilePart
 from ._names import FILETYPES, hash_type_name, plain, platform_name, protection_text
 from ._parts import arch_name
@@ -86,7 +87,9 @@ def _tail(it: Teller, field: str) -> Story:
     name = it.second_part
     whole = bytes(it.case.data[name.start:name.end])
     ended = whole.partition(b"\0")[0]
-    return it.story(f"the byte {it.value:02x} at {it.first_part.start:#x} is past the {field} of {it.at}.", "byte").read_as(
+    says = f"the byte {it.value:02x} at {it.first_part.start:#x} is past the {field} of {it.at}."
+    mark = Mark(it.first_part.start, it.first_part.size, f"byte {it.value:02x}")
+    return it.story(says, "byte").marking(mark).read_as(
         "readers that end a name at a zero byte", f"the name {ended.hex(' ')}").read_as(
         "readers of all 16 bytes", f"the name {whole.hex(' ')}")
 
@@ -178,11 +181,10 @@ def section_name(it: Teller) -> Story:
     if it.first_part.kind == "byte":
         return _tail(it, "sectname")
     if it.first_part.kind == "name":
-        names = [bytes(it.case.data[part.start:part.end]).hex(" ") for part in (it.first_part, it.second_part)]
-        return it.story(f"{it.at} has another segname than the segment that it is in.", "8 bytes of the segname",
-                        "8 bytes of the segment's name").read_as(
-            "readers of the section's names", f"the segname {names[0]}").read_as(
-            "readers of the segment's name", f"the segname {names[1]}")
+        own, other = (padded(it.case.data[part.start:part.end]) for part in (it.first_part, it.second_part))
+        return it.story(f'{it.at} has the segname "{own}", and the segment that it is in has the segname "{other}".'
+                        ).read_as("readers of the section's names", f'the segname "{own}"').read_as(
+            "readers of the segment's name", f'the segname "{other}"')
     return it.story(f"{it.first} and {it.second} have the same two names.", "place of the later section",
                     "place of the earlier section").read_as(FIRST_OF, it.second).read_as(LAST_OF, it.first)
 
@@ -294,7 +296,8 @@ def symbol_total(it: Teller) -> Story:
 
 def export_symbol(it: Teller) -> Story:
     own = _Nlist(it.case.data, it.at_part)
-    numbers = "n_value", f"{'n_value' if it.second else 'address'} of the other"
+    # Equal numbers are none of the conflict.
+    numbers = ("n_value", f"{'n_value' if it.second else 'address'} of the other") if it.value != it.limit else ("", "")
     return _of_symbols(it, own, numbers) if it.second else _of_export(it, own, numbers)
 
 
@@ -320,13 +323,14 @@ def _weak(is_weak: bool) -> str:
 def _of_symbols(it: Teller, own: _Nlist, numbers: Tuple[str, str]) -> Story:
     """Two symbols of one name."""
     other = _Nlist(it.case.data, it.second_part)
-    verb = "has" if own.value != other.value else "is"
     if own.value != other.value:
         sees = [f"the value {one.value:#x}" for one in (own, other)]
+        story = it.story(f"{it.at} has {sees[0]}, and {it.second}, of the same name, has {sees[1]}.", *numbers)
     else:
         sees = [own.what, other.what] if own.type != other.type else [_weak(own.is_weak), _weak(other.is_weak)]
-    says = f"{it.at} {verb} {sees[0]}, and {it.second}, of the same name, {verb} {sees[1]}."
-    return it.story(says, *numbers).read_as(FIRST_OF, sees[1]).read_as(LAST_OF, sees[0])
+        story = it.story(f"{it.at} is {sees[0]}, and {it.second}, of the same name and value, {own.value:#x}, is "
+                         f"{sees[1]}.", *numbers)
+    return story.read_as(FIRST_OF, sees[1]).read_as(LAST_OF, sees[0])
 
 
 def _of_export(it: Teller, own: _Nlist, numbers: Tuple[str, str]) -> Story:
@@ -343,7 +347,8 @@ def _of_export(it: Teller, own: _Nlist, numbers: Tuple[str, str]) -> Story:
         return it.story(f"{it.at} is at {own.value:#x}, and {export}.", *numbers).read_as(
             by_symbols, f"{own.value:#x}").read_as(by_exports, f"{it.limit:#x}")
     own_is, other_is = ("is weak", "is not") if own.is_weak else ("is not weak", "is")
-    return it.story(f"{it.at} {own_is}, and the export of its name {other_is}.", *numbers).read_as(
+    return it.story(f"{it.at} {own_is}, and the export of its name {other_is}. Both are at {own.value:#x}.",
+                    *numbers).read_as(
         by_symbols, _weak(own.is_weak)).read_as(by_exports, _weak(not own.is_weak))
 
 

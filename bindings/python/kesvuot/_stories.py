@@ -21,7 +21,9 @@ from ._signature_stories import (
     directory_repeated, signature_blob, signature_directory, signature_hash, signature_missing, signature_slack,
     signature_whole)
 from ._structures import number_in
-from .constants import S_SYMBOL_STUBS, SECTION_TYPE
+from .constants import (
+    EXPORT_SYMBOL_FLAGS_KIND_MASK, EXPORT_SYMBOL_FLAGS_REEXPORT, EXPORT_SYMBOL_FLAGS_STUB_AND_RESOLVER, S_SYMBOL_STUBS,
+    SECTION_TYPE)
 from ._teller import Story, Teller
 
 LC_ID_DYLIB = "LC_ID_DYLIB"
@@ -40,6 +42,8 @@ R_EXTERN = 8
 INIT_OFFSET_SIZE = 4
 # The tables of LC_DYSYMTAB. One is not obsolete.
 OBSOLETE_TABLES = ("contents", "modules", "references", "", "external relocations", "local relocations")
+# The kind of an export that has no name.
+UNKNOWN_KIND = 3
 # The kinds of data in code, and the last address.
 DICE_KINDS = (1, 2, 3, 4, 5)
 MOST = (1 << 64) - 1
@@ -493,8 +497,18 @@ def _export_total(it: Teller) -> Story:
 
 
 def _export_terminal(it: Teller) -> Story:
-    return it.story(f"the export of {it.at} has the flags {it.value:#x}, and is not read exactly to its end, or has flags "
-                    "that are not known.", "flags", "flags that are known")
+    flags = it.value
+    export = f"the export of {it.at}"
+    if flags > it.limit:
+        return it.story(f"{export} has the flags {flags:#x}, and those that are known are {it.limit:#x}.", "flags",
+                        "flags that are known")
+    if flags & EXPORT_SYMBOL_FLAGS_KIND_MASK == UNKNOWN_KIND:
+        return it.story(f"{export} is of kind {UNKNOWN_KIND}, by the lowest two bits of its flags, {flags:#x}, and "
+                        f"{_known(range(UNKNOWN_KIND))}.", "flags")
+    if flags & EXPORT_SYMBOL_FLAGS_REEXPORT and flags & EXPORT_SYMBOL_FLAGS_STUB_AND_RESOLVER:
+        return it.story(f"{export} is a re-export with a resolver, by its flags, {flags:#x}.", "flags")
+    return it.story(f"{export} is not read exactly to its end: a number or a name goes past it, or bytes are left.",
+                    "flags" if flags else "")
 
 
 def _export_address(it: Teller) -> Story:

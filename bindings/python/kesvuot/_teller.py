@@ -5,6 +5,7 @@ from __future__ import annotations
 from typing import List, NamedTuple, Tuple
 
 from ._case import Case
+from ._dump import Mark
 from ._explanation import Part as FilePart
 from ._structures import number_in
 
@@ -21,15 +22,21 @@ class Reading(NamedTuple):
 
 
 class Story(NamedTuple):
-    """A sentence, the numbers with what they are, and the two readings of a file that is ambiguous."""
+    """A sentence, the numbers with what they are, the two readings of a file that is ambiguous, and bytes of the file
+    that the sentence is about, besides fields of structures."""
 
     says: str
     numbers: List[Number]
     readings: Tuple[Reading, ...] = ()
+    marks: Tuple[Mark, ...] = ()
 
     def read_as(self, who: str, sees: str) -> Story:
         """The same with one more reading."""
         return self._replace(readings=(*self.readings, Reading(who, sees)))
+
+    def marking(self, *marks: Mark) -> Story:
+        """The same with more bytes."""
+        return self._replace(marks=(*self.marks, *marks))
 
 
 class Teller:
