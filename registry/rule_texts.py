@@ -5,9 +5,11 @@ from __future__ import annotations
 import re
 import sys
 import textwrap
+from pathlib import Path
 from typing import List
 
-LABELS = ("Violated when", "Why", "Usual cause", "What to do", "How to look")
+LABELS = ("Violated when", "Why", "Usual cause", "What to do", "Received", "How to look")
+README = Path(__file__).resolve().parent.parent / "docs/rules/README.md"
 
 
 def rule_lines(rule: str, name: str, page: str) -> List[str]:
@@ -30,6 +32,9 @@ def _plain(text: str) -> str:
 def _part(section: str, label: str) -> str:
     """The text below a label, without what it shows of a shell."""
     found = re.search(rf"^- \*\*{label}:?\*\*,?:?(.*?)(?=^- \*\*|^#|\Z)", section, re.MULTILINE | re.DOTALL)
+    if not found and label == "Received":
+        # Most rules have the same text, which the first page has.
+        return _part(README.read_text(encoding="utf-8"), label).partition("Where a section has none: ")[2]
     if not found:
         sys.exit(f"a rule has no text for `{label}`: {section[:100]}")
     return _plain(re.sub(r"\n\n {6}.*", "", found[1], flags=re.DOTALL).replace("\n  - ", "\n"))

@@ -11,6 +11,7 @@ import base64
 import hashlib
 import io
 import os
+import re
 import sys
 import tarfile
 import zipfile
@@ -20,6 +21,9 @@ from typing import Any, Dict, Optional, Sequence
 
 METADATA = Path("METADATA")
 PACKAGE = sorted(path for pattern in ("*.py", "map.html", "py.typed") for path in Path("kesvuot").glob(pattern))
+# The pages to which reports have links, and their folder, in the repository or in the archive of the sources.
+DOCS = next(filter(Path.is_dir, (Path("pages"), Path("../../docs"))), Path("pages"))
+PAGES = sorted(path.relative_to(DOCS) for name in ("rules/*.md", "guide/policies.md") for path in DOCS.glob(name))
 # The command that pip installs.
 ENTRY_POINTS = b"[console_scripts]\nkesvuot = kesvuot.__main__:main\n"
 # The systems that the library is for, as pip names them: x86-64 Linux with the C library of 2006 or a later one. Versions
@@ -41,10 +45,20 @@ def _line_of_record(name: str, content: bytes) -> str:
     return f"{name},sha256={digest},{len(content)}\n"
 
 
+def _page(page: Path) -> bytes:
+    """A page. Of a link to what is not in the package, the text stays."""
+    def link(found: "re.Match[str]") -> str:
+        target = os.path.normpath(page.parent / found[2].partition("#")[0])
+        return found[0] if found[2].startswith("#") or Path(target) in PAGES else found[1]
+
+    return re.sub(r"\[([^][]*)\]\(([^)]*)\)", link, (DOCS / page).read_text(encoding="utf-8")).encode()
+
+
 def _write_wheel(folder: str, *systems: str, library: Optional[Path] = None, notices: Sequence[Path] = ()) -> str:
     """Writes a wheel of the package for these systems. Returns its name."""
     info, name = f"{_full_name()}.dist-info", f"{_full_name()}-py3-none-{'.'.join(systems)}.whl"
     files = {path.as_posix(): path.read_bytes() for path in PACKAGE}
+    files.update({f"kesvuot/pages/{page.as_posix()}": _page(page) for page in PAGES})
     if library:
         files[f"kesvuot/{library.name}"] = library.read_bytes()
     files.update({f"{info}/licenses/{notice.name}": notice.read_bytes() for notice in notices})
@@ -75,6 +89,7 @@ def build_sdist(sdist_directory: str, config_settings: Optional[Dict[str, Any]] 
     del config_settings
     name = f"{_full_name()}.tar.gz"
     sources = {path.as_posix(): path for path in (*PACKAGE, METADATA, Path("backend.py"), Path("pyproject.toml"))}
+    sources.update({f"pages/{page.as_posix()}": DOCS / page for page in PAGES})
     with tarfile.open(os.path.join(sdist_directory, name), "w:gz", format=tarfile.PAX_FORMAT) as archive:
         for path, source in {**sources, "PKG-INFO": METADATA}.items():
             content = source.read_bytes()

@@ -14,14 +14,14 @@ _kesvuot() {
                 words="check explain show diff map policy --help --version"
             elif [[ $current == -* ]]; then
                 case ${COMP_WORDS[1]} in
-                    check) words="--allow-none --archives --baseline --cluster --exclude --expect --fail-other-kinds
+                    check) words="--allow-none --archives --baseline --cluster --exclude --expect --explain --fail-other-kinds
                         --files-from --format --help --include --jobs --manifest --max-unpacked --mmap --no-progress
                         --no-unsupported-slices --null --policy --profile --quiet --rules-url --since
                         --skip-other-kinds" ;;
-                    explain) words="--help --json --profile --rules-url" ;;
-                    show) words="--all --help --json --profile --rules-url" ;;
+                    explain) words="--help --json --max-unpacked --profile --rules-url" ;;
+                    show) words="--all --help --json --max-unpacked --profile --rules-url" ;;
                     diff | policy) words="--help --json --profile" ;;
-                    map) words="--help --output --profile --rules-url" ;;
+                    map) words="--help --max-unpacked --output --profile --rules-url" ;;
                 esac
             fi
             ;;

@@ -16,12 +16,13 @@ complete -c kesvuot -n '__fish_seen_subcommand_from check explain show map' -l r
 
 complete -c kesvuot -n '__fish_seen_subcommand_from check' -l format -x -a 'text json jsonl sarif junit github' \
     -d 'How to print what is found'
+complete -c kesvuot -n '__fish_seen_subcommand_from check' -l explain -d 'Print what is wrong with each refused file'
 complete -c kesvuot -n '__fish_seen_subcommand_from check' -l include -x -d 'Judge only such names'
 complete -c kesvuot -n '__fish_seen_subcommand_from check' -l exclude -x -d 'Leave out such names'
 complete -c kesvuot -n '__fish_seen_subcommand_from check' -l archives -d 'In folders, judge the members of archives too'
 complete -c kesvuot -n '__fish_seen_subcommand_from check' -l expect -x -d 'Fail if fewer files are judged'
 complete -c kesvuot -n '__fish_seen_subcommand_from check' -l allow-none -d 'Do not fail if no file is judged'
-complete -c kesvuot -n '__fish_seen_subcommand_from check' -l max-unpacked -x -d 'The most bytes to unpack of an archive'
+complete -c kesvuot -n '__fish_seen_subcommand_from check explain show map' -l max-unpacked -x -d 'The most bytes to unpack of an archive'
 complete -c kesvuot -n '__fish_seen_subcommand_from check' -l fail-other-kinds \
     -d 'Refuse files of another kind in folders and archives'
 complete -c kesvuot -n '__fish_seen_subcommand_from check' -l skip-other-kinds -d 'Skip files of another kind'

@@ -176,8 +176,9 @@ def archive_at(path: str, is_found: bool, allowance: Allowance) -> Union[Archive
     return archive
 
 
-def has_members(path: str, head: bytes) -> bool:
-    """Whether a file is an archive: standard input by its first bytes, which were read."""
+def archive_kind(path: str, head: bytes) -> str:
+    """What kind of archive a file is, or how it is compressed, if it is either: standard input by its first bytes,
+    which were read."""
     allowance = Allowance(MOST_UNPACKED)
     try:
         if path == "-":
@@ -188,8 +189,8 @@ def has_members(path: str, head: bytes) -> bool:
             if isinstance(archive, Archive):
                 archive.close()
     except (*FAULTS, Spent):
-        return False
-    return container is not None and container.kind in (ZIP, TAR)
+        return ""
+    return container.kind if container else ""
 
 
 def _archive_of(path: str, descriptor: int, start: int, allowance: Allowance) -> Optional[Archive]:

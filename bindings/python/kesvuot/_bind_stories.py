@@ -3,6 +3,7 @@ nlist.h, fixup-chains.h)"""
 
 from __future__ import annotations
 
+from itertools import islice
 from types import SimpleNamespace
 from typing import Any, Dict, Iterator, List, NamedTuple, Optional, Tuple
 
@@ -13,12 +14,14 @@ from ._opcodes import (
     BIND, BIND_SPECIAL_DYLIB_WEAK_LOOKUP, LAZY_BIND, POINTER_SIZE, SPAN, WEAK_BIND, Binds, LazyBinds, OpcodeError)
 from ._parts import walk_commands
 from ._structures import number_in, size_of
-from ._teller import Story, Teller
+from ._teller import MOST_STEPS, Story, Teller
 from .constants import (
     DYNAMIC_LOOKUP_ORDINAL, EXECUTABLE_ORDINAL, LC_DYLD_CHAINED_FIXUPS, LC_DYLD_INFO, LC_DYLD_INFO_ONLY, LC_ID_DYLIB,
     LC_SEGMENT_64, LC_SYMTAB, N_EXT, N_INDR, N_STAB, N_TYPE, S_LAZY_DYLIB_SYMBOL_POINTERS, S_LAZY_SYMBOL_POINTERS,
     S_NON_LAZY_SYMBOL_POINTERS, S_THREAD_LOCAL_VARIABLE_POINTERS, SECTION_TYPE)
 
+# A name is looked for in pieces of so many bytes.
+PIECE = 1 << 10
 # The streams with binds, in the order in which a loader follows them.
 STREAMS = (BIND, LAZY_BIND, WEAK_BIND)
 POINTER_TYPES = (
@@ -83,7 +86,13 @@ class Linked:
 
     def string(self, place: int) -> bytes:
         """The bytes from an offset of the image up to the first zero byte."""
-        return bytes(self.data[place:]).partition(b"\0")[0]
+        name = bytearray()
+        for start in range(place, len(self.data), PIECE):
+            piece, zero, _ = bytes(self.data[start:start + PIECE]).partition(b"\0")
+            name += piece
+            if zero:
+                break
+        return bytes(name)
 
     def name_at(self, offset: int) -> bytes:
         """The name at an offset of the strings."""
@@ -108,7 +117,7 @@ class Linked:
             start, size = SPAN.unpack_from(command, at)
             stream = kind(Bytes(self.data), start, size, image)
             try:
-                for offsets, segment in stream.runs():
+                for offsets, segment in islice(stream.runs(), MOST_STEPS):
                     if offsets:
                         yield Bound(self.start + stream.place, number, segment, offsets, bytes(stream.name),
                                     None if at == WEAK_BIND else stream.ordinal, stream.addend)
@@ -128,7 +137,7 @@ class Linked:
             yield LookUp(f"the opcode at {bound.place:#x}", bound.name, bound.ordinal)
         chains = self.chains()
         if chains:
-            yield from map(chains.look_up, range(chains.count))
+            yield from map(chains.look_up, range(min(chains.count, MOST_STEPS)))
 
 
 class Chains:
@@ -266,12 +275,16 @@ def indirect_name(it: Teller) -> Story:
 
 def _bound_of(linked: Linked, index: int, own: bytes) -> Optional[bytes]:
     """The name to which the pointer of an indirect entry is bound: the first that is not the entry's, if any is not."""
+    names: Dict[Tuple[int, int], List[bytes]] = {pointer: [] for pointer in _pointers_of(linked, index)}
+    # All streams together bind no more pointers than the file has room for.
+    for bound in linked.bounds():
+        for offset in bound.offsets:
+            names.get((bound.segment, offset), []).append(bound.name)
     found: Optional[bytes] = None
-    for segment, offset in _pointers_of(linked, index):
-        names = [bound.name for bound in linked.bounds() if bound.segment == segment and offset in bound.offsets]
-        chains = linked.chains()
+    chains = linked.chains()
+    for (segment, offset), bound_names in names.items():
         chained = chains.bound(segment, offset) if chains else None
-        for name in names + ([] if chained is None else [chained]):
+        for name in bound_names + ([] if chained is None else [chained]):
             if name != own:
                 return name
             found = name

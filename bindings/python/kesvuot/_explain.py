@@ -9,20 +9,21 @@ import textwrap
 from functools import partial
 from typing import Any, Dict, Iterator, List, Optional, Tuple
 
-from ._archives import HEAD_SIZE, has_members
+from ._archives import HEAD_SIZE, TAR, ZIP, archive_kind
 from ._case import Case
-from ._check import ACCEPTED, NO_VERDICT, Choice, Outcome, Target, judge
+from ._check import ACCEPTED, NO_VERDICT, REFUSED, Choice, Outcome
 from ._dump import Mark, dump
 from ._command_stories import HELD
 from ._explanation import Part as FilePart
 from ._files import ARCHITECTURES, File, Image
+from ._named import judge_named
 from ._names import command_name
 from ._output import GREEN, RED, Output, coloured, say
-from ._pages import PAGES
+from ._pages import PAGES, see
 from ._parts import image_parts, slices_of
 from ._profiles import PROFILES, later
-from ._paths import shown
-from ._reports import check_object, link, reason_text, rule_text
+from ._paths import SEPARATOR, shown
+from ._reports import check_object, reason_text, rule_text, section
 from ._rules import RULES
 from ._stories import Told, told_of
 from ._structures import LISTED, size_of
@@ -38,6 +39,10 @@ NAME_WIDTH = 40
 SHOWN_OF_COMMAND, SHOWN_BEFORE, SHOWN_AFTER = 128, 16, 32
 MEMORY = frozenset(("segment-memory", "section-memory"))
 
+# What is said to whoever made a file, and to whoever received it.
+REMEDIES, THE_SAME = ("What to do", "If you received the file"), "the same."
+# The names of the kinds of archives, and the end of the name of a compressed image.
+KINDS, OF_A_MACH_O = {ZIP: "zip archive", TAR: "tar archive"}, " of a Mach-O"
 # How many names of what is not judged are shown.
 MOST_NAMES = 20
 # The tables whose contents each profile judges in part, and those whose contents the linked profile judges.
@@ -51,19 +56,29 @@ COMMANDS_OF_LINKED = {LC_THREAD, LC_UNIXTHREAD, *HELD}
 Rows = List[Tuple[str, ...]]
 
 
-def explain_file(path: str, profile: str, as_json: bool) -> int:
-    """Prints the explanation of a file, and returns the status."""
+def explain_file(name: str, profile: str, as_json: bool, most_unpacked: int) -> int:
+    """Prints the explanation of a file by its name, and returns the status."""
     output = Output()
-    outcome = judge(Target(path), Choice(profile, walks=False, extra=partial(_not_judged, profile), of_refused=told_of))
+    outcome = _with_kind(judge_named(name, Choice(
+        profile, walks=False, extra=partial(_not_judged, profile), of_refused=told_of, most_unpacked=most_unpacked)))
     if as_json:
         output.write(json.dumps(_object(outcome, profile), indent=1) + "\n")
     elif outcome.word == NO_VERDICT:
-        say(f"{shown(path)}: {outcome.reason}")
+        say(f"{shown(outcome.path)}: {outcome.reason}")
     else:
         for line in (_accepted if outcome.word == ACCEPTED else _refused)(outcome, profile):
             output.write(f"{line}\n")
     output.flush()
     return outcome.status
+
+
+def _with_kind(outcome: Outcome) -> Outcome:
+    """The outcome of a file, with its kind if it is an archive or compressed."""
+    told: Optional[Told] = outcome.extra if outcome.word == REFUSED else None
+    if not told or outcome.rule != "magic" or SEPARATOR in outcome.path:
+        return outcome
+    kind = archive_kind(outcome.path, bytes(told.case.data[:HEAD_SIZE]))
+    return outcome._replace(kind=KINDS.get(kind, kind)) if kind else outcome
 
 
 # Accepted files
@@ -115,7 +130,9 @@ def _accepted(outcome: Outcome, profile: str) -> Iterator[str]:
         yield "Not judged:"
     for name, what in outcome.extra:
         yield from _wrapped(f"{name}: {what}", "  ", "    ")
-    yield from _wrapped(f"See {PAGES.link(PROFILES[profile].leaves)} for what is not judged in any file.", "")
+    page = PAGES.link(PROFILES[profile].leaves)
+    if page:
+        yield from _wrapped(f"See {page} for what is not judged in any file.", "")
 
 
 def _wrapped(text: str, first: str, rest: Optional[str] = None) -> List[str]:
@@ -150,21 +167,25 @@ def _texts(outcome: Outcome, told: Optional[Told]) -> Iterator[str]:
     """What the page says of the rule."""
     rule = RULES[outcome.rule]
     for text in (rule_text(outcome.rule), f"Why: {rule.why}", f"Usual cause: {rule.cause}",
-                 f"What to do: {_remedy(outcome)}", f"How to look: {rule.look}"):
+                 *map(": ".join, zip(REMEDIES, _remedies(outcome))), f"How to look: {rule.look}"):
         yield from _wrapped(text, "")
     yield ""
     yield from (f"  {line}" for line in lines_to_look(outcome, told))
-    yield ""
-    yield f"See {link(outcome.rule)}."
+    page = PAGES.link(section(outcome.rule))
+    if page:
+        yield ""
+        yield see(page).strip()
 
 
-def _remedy(outcome: Outcome) -> str:
-    """What to do: of an archive, to judge what is in it."""
-    told: Optional[Told] = outcome.extra
-    if told and outcome.rule == "magic" and has_members(outcome.path, bytes(told.case.data[:HEAD_SIZE])):
-        name = shlex.quote(outcome.path) if outcome.path.isprintable() else "FILE"
-        return f"the file is an archive. Its members are judged by: kesvuot check {name}"
-    return RULES[outcome.rule].remedy
+def _remedies(outcome: Outcome) -> Tuple[str, str]:
+    """What whoever made the file can do, and whoever received it: of an archive, to judge what is in it."""
+    name = shlex.quote(outcome.path) if outcome.path.isprintable() else "FILE"
+    if outcome.kind in KINDS.values():
+        return f"the file is an archive. Its members are judged by: kesvuot check {name}", THE_SAME
+    compression = (outcome.kind or "").partition(OF_A_MACH_O)
+    if compression[1]:
+        return f"unpack the file, and judge what is in it: {compression[0]} -dc {name} | kesvuot check -", THE_SAME
+    return RULES[outcome.rule].remedy, RULES[outcome.rule].received
 
 
 def lines_to_look(outcome: Outcome, told: Optional[Told]) -> List[str]:
@@ -254,8 +275,8 @@ def _object(outcome: Outcome, profile: str) -> Dict[str, Any]:
     if outcome.word == ACCEPTED:
         whole["not_judged"] = [{"part": part, "what": what} for part, what in outcome.extra]
     elif outcome.rule:
-        rule, told = RULES[outcome.rule], outcome.extra
-        whole.update(why=rule.why, cause=rule.cause, remedy=_remedy(outcome), look=rule.look,
+        rule, told, remedies = RULES[outcome.rule], outcome.extra, _remedies(outcome)
+        whole.update(why=rule.why, cause=rule.cause, remedy=remedies[0], received=remedies[1], look=rule.look,
                      lines=lines_to_look(outcome, told), explanation=told and _told_object(told))
     return whole
 

@@ -9,7 +9,7 @@ from xml.sax.saxutils import escape, quoteattr
 from ._check import ACCEPTED, NO_VERDICT, NOT_BY_POLICY, OTHER_KIND, REFUSED, SKIPPED, Outcome, Summary
 from ._paths import located, shown
 from ._policy_reports import lines, rule_of
-from ._reports import Report, Write, found_text, reason_text, rule_text
+from ._reports import Report, Write, found_text, reason_text, texts
 from ._waiting import Waiting
 
 if TYPE_CHECKING:
@@ -77,7 +77,7 @@ class Junit(Report):
             return
         is_refused = outcome.word == REFUSED
         tag, kind = ("failure", outcome.rule) if is_refused else ("error", outcome.word)
-        text = escape(rule_text(outcome.rule)) if is_refused else ""
+        text = escape(texts(outcome)) if is_refused else ""
         self.cases.add(f"{start}>\n      <{tag} type={quoteattr(kind)} message={quoteattr(reason_text(outcome))}>"
                        f"{text}</{tag}>\n    </testcase>\n")
 

@@ -8,15 +8,17 @@ import pkgutil
 from typing import Any, Dict, Iterable, Iterator, List, NamedTuple, Optional
 
 from ._case import is_same
-from ._check import NO_VERDICT, REFUSED, Choice, Outcome, Target, judge
+from ._check import NO_VERDICT, REFUSED, Choice, Outcome
 from ._explanation import Explanation, Part as FilePart
 from ._files import File, Refused
+from ._named import file_of, judge_named
 from ._names import size_text
 from ._output import STANDARD_OUTPUT, Output, WriteFailed, say
+from ._pages import PAGES
 from ._parts import Part, parts_of
 from ._reading import Contents
 from ._paths import shown
-from ._reports import link, reason_text, rule_text
+from ._reports import reason_text, rule_text, section
 from ._rules import RULES
 from ._stories import Told, told_of
 
@@ -43,14 +45,17 @@ class Mapped(NamedTuple):
     told: Optional[Told] = None
 
 
-def map_file(path: str, profile: str, target: str) -> int:
-    """Writes the map of a file, and returns the status. For a file without a verdict there is none."""
+def map_file(name: str, profile: str, target: str, most_unpacked: int) -> int:
+    """Writes the map of a file by its name, and returns the status. For a file without a verdict there is none."""
+    path = file_of(name)
     if _is_same(path, target):
         say(f"{shown(target)}: the map would replace the file")
         return Outcome(path, NO_VERDICT).status
-    outcome = judge(Target(path), Choice(profile, walks=False, extra=_mapped, of_refused=_mapped_refused))
-    if outcome.word == NO_VERDICT:
-        say(f"{shown(path)}: {outcome.reason}")
+    outcome = judge_named(name, Choice(
+        profile, walks=False, extra=_mapped, of_refused=_mapped_refused, most_unpacked=most_unpacked))
+    if outcome.extra is None:
+        # A compressed member has not been unpacked.
+        say(f"{shown(outcome.path)}: {outcome.reason if outcome.word == NO_VERDICT else reason_text(outcome)}")
     else:
         _write(target, page_of(outcome, profile))
     return outcome.status
@@ -131,7 +136,8 @@ def _object(outcome: Outcome, profile: str, marks: Marks, kept: List[int]) -> Di
         told = outcome.extra.told
         whole.update(verdict=reason_text(outcome), rule=outcome.rule, place=outcome.place, text=rule_text(outcome.rule),
                      says=told.story.says if told else "", why=rule.why, cause=rule.cause, remedy=rule.remedy,
-                     link=link(outcome.rule), broken=broken, others=others,
+                     received=rule.received,
+                     link=PAGES.shared(section(outcome.rule)), broken=broken, others=others,
                      readings=[reading._asdict() for reading in told.story.readings] if told else [])
     return whole
 

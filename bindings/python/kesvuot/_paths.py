@@ -3,6 +3,7 @@
 from __future__ import annotations
 
 import os
+import re
 from typing import Dict
 
 from ._output import as_bytes
@@ -34,6 +35,14 @@ def printable(text: str, escapes: Dict[str, str] = ESCAPES) -> str:
 def shown(path: str) -> str:
     """A path on one line, which no other path has."""
     return printable(path, ESCAPES_OF_PATH)
+
+
+def path_of(text: str) -> str:
+    """The path of a file that is shown as this text."""
+    def byte(found: "re.Match[bytes]") -> bytes:
+        return {b"\\": b"\\", b"n": b"\n", b"r": b"\r", b"t": b"\t"}.get(found[1]) or bytes.fromhex(found[1][1:].decode())
+
+    return os.fsdecode(re.sub(rb"\\(\\|n|r|t|x[0-9a-f]{2})", byte, os.fsencode(text)))
 
 
 def file_object(path: str) -> Dict[str, str]:

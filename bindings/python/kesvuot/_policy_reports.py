@@ -6,7 +6,7 @@ from __future__ import annotations
 from typing import TYPE_CHECKING, Any, Dict, Iterator, List, Optional
 
 from ._check import ACCEPTED, NOT_BY_POLICY, Outcome
-from ._pages import PAGES
+from ._pages import PAGES, see
 
 if TYPE_CHECKING:
     from ._policy import Policy
@@ -21,8 +21,8 @@ def lines(outcome: Outcome) -> List[str]:
 
 
 def page() -> str:
-    """Where the keys are explained."""
-    return PAGES.link("guide/policies.md#keys")
+    """Where the keys are explained, if a reader can be led there."""
+    return PAGES.shared("guide/policies.md#keys")
 
 
 def rule_of(key: str) -> str:
@@ -41,7 +41,7 @@ def sarif_rules(policy: Optional[Policy]) -> Iterator[Dict[str, Any]]:
     for key in policy.keys if policy else ():
         yield {"id": rule_of(key.name), "name": "Policy" + key.name.title().replace("-", "").replace(".", ""),
                "shortDescription": {"text": rule_of(key.name)}, "fullDescription": {"text": key.asks},
-               "help": {"text": f"The policy asks: {key.asks}\nSee {page()}."},
+               "help": {"text": f"The policy asks: {key.asks}{see(page())}"},
                "defaultConfiguration": {"level": "error"}}
 
 

@@ -4,15 +4,17 @@ is kept, however many there are."""
 from __future__ import annotations
 
 import json
-from typing import TYPE_CHECKING, Any, Callable, Dict, Optional, Type
+from typing import TYPE_CHECKING, Any, Callable, Dict, NamedTuple, Optional, Type
 
 from . import _policy_reports
 from ._check import (
     ACCEPTED, NO_VERDICT, NOT_BY_POLICY, OTHER_KIND, REFUSED, SKIPPED, UNSUPPORTED_SLICE, ExtraOfRefused, Outcome,
     Summary)
+from ._files import Refused
 from ._output import AS_BYTES
-from ._pages import PAGES
+from ._pages import PAGES, see
 from ._paths import file_object, located, shown
+from ._reading import Contents
 from ._rules import RULES, Rule
 
 if TYPE_CHECKING:
@@ -35,6 +37,7 @@ RULES_AND_CHOICES: Dict[str, Rule] = {**RULES, UNSUPPORTED_SLICE: Rule(
     "what was not judged can hold anything.",
     "code for a processor such as i386 or PowerPC beside that for the others.",
     "take the slice out, by lipo -remove, or do without the option.",
+    "ask for a file without the slice, or do without the option.",
     "its first bytes:", ("od -A x -t x1 -j PLACE -N 4 FILE",))}
 
 
@@ -43,9 +46,28 @@ def rule_text(rule: str) -> str:
     return f"Violated when {RULES_AND_CHOICES[rule].broken}"
 
 
-def link(rule: str) -> str:
+def section(rule: str) -> str:
     """The section of a rule on its page."""
-    return PAGES.link(f"{RULES_AND_CHOICES[rule].page}#{rule}")
+    return f"{RULES_AND_CHOICES[rule].page}#{rule}"
+
+
+class Said(NamedTuple):
+    """What a report says of a refused file besides its rule: the sentence of `kesvuot explain`, and how many bytes of
+    the file the structure at the place has from there on."""
+
+    says: str = ""
+    size: int = 0
+
+
+def said_of(data: Contents, refused: Refused) -> Said:
+    """What is said of the bytes of a file. The verdict stands, whatever goes wrong with what is said of it."""
+    from ._stories import told_of  # pylint: disable=import-outside-toplevel # it loads much, and few files are refused
+    try:
+        told = told_of(data, refused, is_for_report=True)
+    except Exception:  # pylint: disable=broad-except # no sentence is worth a verdict
+        told = None
+    end = min(told.case.explanation.at.end, len(data)) if told else 0
+    return Said(told.story.says if told else "", max(end - refused.place, 0))
 
 
 def kind_text(outcome: Outcome) -> str:
@@ -68,6 +90,11 @@ def found_text(outcome: Outcome) -> str:
     return f"{outcome.kind}, not judged"
 
 
+def texts(outcome: Outcome) -> str:
+    """What is wrong with a refused file, if that is known, and when its rule is violated."""
+    return " ".join(filter(None, (outcome.extra.says if outcome.extra else "", rule_text(outcome.rule))))
+
+
 def check_object(outcome: Outcome) -> Dict[str, Any]:
     """What is said of a file, for JSON (docs/check.schema.json)."""
     whole: Dict[str, Any] = {**file_object(outcome.path), "verdict": outcome.word, "status": outcome.status}
@@ -76,8 +103,9 @@ def check_object(outcome: Outcome) -> Dict[str, Any]:
     elif outcome.word == NOT_BY_POLICY:
         whole.update(size=outcome.size, slice_count=outcome.slices, policy=_policy_reports.objects(outcome))
     elif outcome.word in (REFUSED, OTHER_KIND):
-        whole.update(rule=outcome.rule, place=outcome.place, text=rule_text(outcome.rule), link=link(outcome.rule),
-                     kind=outcome.kind)
+        link = PAGES.shared(section(outcome.rule))
+        whole.update(rule=outcome.rule, place=outcome.place, text=rule_text(outcome.rule), kind=outcome.kind,
+                     **({"link": link} if link else {}))
         if outcome.unsupported:
             whole.update(slice=outcome.unsupported._asdict())
     else:
@@ -100,8 +128,8 @@ class Report:
     policy: Optional[Policy] = None
     # Whether some refusals may be known.
     has_baseline = False
-    # What is asked of a refused file.
-    of_refused: ExtraOfRefused = None
+    # What is asked of a refused file. The answer is `extra` of its outcome.
+    of_refused: ExtraOfRefused = staticmethod(said_of)
     # Whether it is finished after a signal too, so that a reader of it gets what it can read.
     is_whole = True
 
@@ -122,12 +150,20 @@ class Report:
         """Ends the report, also one that could not be written."""
 
 
+def _file_object(outcome: Outcome) -> Dict[str, Any]:
+    """What is said of a file, with the sentence if it is refused."""
+    whole = check_object(outcome)
+    if outcome.word == REFUSED and outcome.extra and outcome.extra.says:
+        whole.update(says=outcome.extra.says)
+    return whole
+
+
 class JsonLines(Report):
     """An object in each line. A run that has failed has one more, with its counts."""
 
     def add(self, outcome: Outcome) -> None:
         if outcome.word != SKIPPED:
-            self.write(json.dumps(check_object(outcome)) + "\n")
+            self.write(json.dumps(_file_object(outcome)) + "\n")
 
     def end(self, summary: Summary) -> None:
         if summary.fault:
@@ -146,7 +182,7 @@ class Json(Report):
 
     def add(self, outcome: Outcome) -> None:
         if outcome.word != SKIPPED:
-            self.write(self.separator + json.dumps(check_object(outcome)))
+            self.write(self.separator + json.dumps(_file_object(outcome)))
             self.separator = ",\n    "
 
     def end(self, summary: Summary) -> None:
@@ -160,11 +196,11 @@ class GitHub(Report):
 
     def add(self, outcome: Outcome) -> None:
         if outcome.word == REFUSED and not outcome.is_known:
-            self._annotate(outcome, outcome.rule, f"{reason_text(outcome)}. {rule_text(outcome.rule)} "
-                                                  f"See {link(outcome.rule)}.")
+            self._annotate(outcome, outcome.rule, f"{reason_text(outcome)}. {texts(outcome)}"
+                                                  f"{see(PAGES.shared(section(outcome.rule)))}")
         elif outcome.word == NOT_BY_POLICY:
             for unmet, line in zip(outcome.unmet, _policy_reports.lines(outcome)):
-                self._annotate(outcome, _policy_reports.rule_of(unmet.key), f"{line}. See {_policy_reports.page()}.")
+                self._annotate(outcome, _policy_reports.rule_of(unmet.key), f"{line}.{see(_policy_reports.page())}")
         elif outcome.word == NO_VERDICT:
             self._annotate(outcome, outcome.word, reason_text(outcome))
 

@@ -8,28 +8,19 @@ from typing import Any, Dict
 
 from . import _policy_reports
 from ._check import NO_VERDICT, NOT_BY_POLICY, OTHER_KIND, REFUSED, Outcome, Summary
-from ._explanation import explain
-from ._files import Refused
+from ._pages import PAGES, see
 from ._paths import uri
-from ._reading import Contents
-from ._reports import RULES_AND_CHOICES, VERSION, Report, Write, found_text, link, reason_text, rule_text
+from ._reports import (
+    RULES_AND_CHOICES, VERSION, Report, Said, Write, found_text, reason_text, rule_text, section, texts)
 from ._rules import Rule
 from ._waiting import Waiting
 
 
-def extent(data: Contents, refused: Refused) -> int:
-    """How many bytes of the file the structure at the place has from there on."""
-    found = explain(data, refused)
-    end = found.at.end if found and found.at else refused.place
-    return max(min(end, len(data)) - refused.place, 0)
-
-
 class Sarif(Report):
     """SARIF 2.1.0: a result for each refused file and for each key of a policy that a file does not meet, and a
-    notification for each without a verdict, or of another kind. The region is one of bytes, because the files are no texts. It has a line
-    all the same, without which some consumers take no result."""
+    notification for each without a verdict, or of another kind. The region is one of bytes, because the files are no
+    texts. It has a line all the same, without which some consumers take no result."""
 
-    of_refused = staticmethod(extent)
     SCHEMA = "https://json.schemastore.org/sarif-2.1.0.json"
 
     def __init__(self, write: Write, profile: str) -> None:
@@ -51,12 +42,13 @@ class Sarif(Report):
 
     @staticmethod
     def _rule(name: str, rule: Rule) -> Dict[str, Any]:
-        page = link(name)
+        page = PAGES.shared(section(name))
         # A helpUri is absolute.
         uris = {"helpUri": page} if ":" in page else {}
         return {"id": name, "name": name.title().replace("-", ""), **uris,
                 "shortDescription": {"text": name}, "fullDescription": {"text": rule_text(name)},
-                "help": {"text": f"Why: {rule.why}\nUsual cause: {rule.cause}\nWhat to do: {rule.remedy}\nSee {page}."},
+                "help": {"text": f"Why: {rule.why}\nUsual cause: {rule.cause}\nWhat to do: {rule.remedy}\n"
+                                 f"If you received the file: {rule.received}{see(page)}"},
                 "defaultConfiguration": {"level": "error"}}
 
     def add(self, outcome: Outcome) -> None:
@@ -64,10 +56,10 @@ class Sarif(Report):
         location = {"physicalLocation": physical}
         if outcome.word == REFUSED:
             # Of a file that is only compressed, or whose refusal is known, no structure was looked for.
-            size = outcome.unsupported.size if outcome.unsupported else outcome.extra or 0
+            size = outcome.unsupported.size if outcome.unsupported else (outcome.extra or Said()).size
             physical["region"] = {"byteOffset": outcome.place, "byteLength": size, "startLine": 1}
             result = {"ruleId": outcome.rule, "ruleIndex": self.numbers[outcome.rule], "level": "error",
-                      "message": {"text": f"{reason_text(outcome)}. {rule_text(outcome.rule)}"},
+                      "message": {"text": f"{reason_text(outcome)}. {texts(outcome)}"},
                       "locations": [location], "properties": {"kind": outcome.kind}}
             if self.has_baseline:
                 result["baselineState"] = "unchanged" if outcome.is_known else "new"

@@ -7,12 +7,13 @@ from functools import partial
 from itertools import islice
 from typing import Any, Dict, Iterator, Optional
 
-from ._check import ACCEPTED, NO_VERDICT, Choice, Outcome, Target, judge
+from ._check import ACCEPTED, NO_VERDICT, Choice, Outcome
 from ._entitlements import Unreadable, entitlement_values
 from ._files import File, Image, Slice
 from ._layout import (
     Signature, cdhashes_of, disagreements, exports_of, fixups_of, imports_of, layout_objects, libraries_of,
     signatures_of)
+from ._named import judge_named
 from ._names import (
     FILETYPES, LIBRARIES, count_text, plain, platform_name, protection_text, signature_flags, size_text, version_text)
 from ._output import Cells, Output, columns, say
@@ -27,24 +28,24 @@ LAYOUT_VERSION = 1
 PIECES = 4096
 
 
-def show(path: str, profile: str, as_json: bool, has_all: bool = False) -> int:
-    """Prints the layout of a file, or why it has none, and returns the status."""
+def show(name: str, profile: str, as_json: bool, has_all: bool, most_unpacked: int) -> int:
+    """Prints the layout of a file by its name, or why it has none, and returns the status."""
     output = Output()
     extra = partial(layout_objects if as_json else _lines, has_all=has_all)
-    outcome = judge(Target(path), Choice(profile, walks=False, extra=extra))
+    outcome = judge_named(name, Choice(profile, walks=False, extra=extra, most_unpacked=most_unpacked))
     if as_json:
         pieces = json.JSONEncoder(indent=1).iterencode(_object(outcome, profile))
         for text in iter(lambda: "".join(islice(pieces, PIECES)), ""):
             output.write(text)
         output.write("\n")
     elif outcome.word == ACCEPTED:
-        output.write(f"{shown(path)}: accepted, {size_text(outcome.size)}, {count_text(outcome.slices, 'slice')}\n")
+        output.write(f"{shown(outcome.path)}: accepted, {size_text(outcome.size)}, {count_text(outcome.slices, 'slice')}\n")
         for line in outcome.extra:
             output.write(f"{line}\n".replace(" \n", "\n"))
     elif outcome.word == NO_VERDICT:
-        say(f"{shown(path)}: {outcome.reason}")
+        say(f"{shown(outcome.path)}: {outcome.reason}")
     else:
-        output.write(f"{shown(path)}: {reason_text(outcome)}\n")
+        output.write(f"{shown(outcome.path)}: {reason_text(outcome)}\n")
     output.flush()
     return outcome.status
 

@@ -8,7 +8,7 @@ from typing import Any, Callable, Dict, Iterator, NamedTuple, Tuple
 from ._explanation import Part as FilePart
 from ._names import HASH_TYPES, count_text
 from ._structures import DIRECTORY_SIZES, directory_size, number_in
-from ._teller import Story, Teller
+from ._teller import MOST_STEPS, Story, Teller
 from .constants import CSMAGIC_CODEDIRECTORY, CSMAGIC_EMBEDDED_SIGNATURE
 
 SUPERBLOB_SIZE, ENTRY_SIZE, DIRECTORY_SIZE = 12, 8, 44
@@ -178,13 +178,14 @@ def signature_slack(it: Teller) -> Story:
     if it.case.place >= end:
         return it.story(f"the byte {it.value:02x} is past {it.first}, which ends at {end:#x}: no hash is of it.", "byte")
     sides: Dict[str, int] = {}
-    for blob in _blobs(it.case.data, it.first_part):
+    is_short = number_in(it.case.data[it.first_part.start:], "CS_SuperBlob", "count") <= MOST_STEPS
+    for blob in _blobs(it.case.data, it.first_part) if is_short else ():
         if blob.end <= it.case.place:
             sides["after"] = blob.index
         else:
             sides.setdefault("before", blob.index)
     where = " and ".join(f"{word} the blob of entry {index}" for word, index in sides.items())
-    return it.story(f"the byte {it.value:02x} is in no blob of {it.first}: it is {where}.", "byte")
+    return it.story(f"the byte {it.value:02x} is in no blob of {it.first}{where and f': it is {where}'}.", "byte")
 
 
 def signature_hash(it: Teller) -> Story:

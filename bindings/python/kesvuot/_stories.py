@@ -2,16 +2,17 @@
 
 from __future__ import annotations
 
+import re
 from typing import Callable, Collection, Dict, NamedTuple, Optional
 
 from . import _names
 from ._bind_stories import bind_once, import_library, indirect_name
-from ._case import Case
+from ._case import SLICES, Case
 from ._command_stories import command_content, thread
-from ._explanation import explain
+from ._explanation import Explanation, explain
 from ._files import Refused
 from ._names import count_text, protection_text
-from ._parts import arch_name
+from ._parts import FAT_ENTRIES, arch_name, slices_of
 from ._reader_stories import (
     bytes_encrypted, command_known, command_once, directory_agree, entry_one, export_edge, export_symbol, fat_count,
     fat_header, fat_page, number_shift, section_alone, section_name, segment_name, segment_page, segment_protection,
@@ -24,7 +25,7 @@ from ._structures import number_in
 from .constants import (
     EXPORT_SYMBOL_FLAGS_KIND_MASK, EXPORT_SYMBOL_FLAGS_REEXPORT, EXPORT_SYMBOL_FLAGS_STUB_AND_RESOLVER, S_SYMBOL_STUBS,
     SECTION_TYPE)
-from ._teller import Story, Teller
+from ._teller import MOST_STEPS, Story, Teller
 
 LC_ID_DYLIB = "LC_ID_DYLIB"
 READ, WRITE, EXECUTE = 1, 2, 4
@@ -42,6 +43,8 @@ R_EXTERN = 8
 INIT_OFFSET_SIZE = 4
 # The tables of LC_DYSYMTAB. One is not obsolete.
 OBSOLETE_TABLES = ("contents", "modules", "references", "", "external relocations", "local relocations")
+# A number 0: at the start, or after the last byte of another number.
+ZERO = re.compile(rb"(?:\A|(?<=[\0-\x7f]))\x80*\0")
 # The kind of an export that has no name.
 UNKNOWN_KIND = 3
 # The kinds of data in code, and the last address.
@@ -524,13 +527,7 @@ def _function_number(it: Teller) -> Story:
 
 def _is_past_zero(it: Teller) -> bool:
     """Whether a number 0 of the function starts ends before the place."""
-    is_zero = True
-    for byte in it.case.data[it.first_part.start:it.at_part.start]:
-        is_zero = is_zero and not byte & 0x7F
-        if byte < 0x80 and is_zero:
-            return True
-        is_zero = is_zero or byte < 0x80
-    return False
+    return ZERO.search(bytes(it.case.data[it.first_part.start:it.at_part.start])) is not None
 
 
 def _function_start(it: Teller) -> Story:
@@ -670,10 +667,26 @@ class Told(NamedTuple):
     story: Story
 
 
-def told_of(data: Contents, refused: Refused) -> Optional[Told]:
-    """What is told of a file that was refused, or None if the verdict is not of these bytes."""
+# A report has a sentence of a file with so many bytes of load commands, as many as a hundred large applications.
+MOST_COMMANDS = 1 << 20
+
+
+def told_of(data: Contents, refused: Refused, is_for_report: bool = False) -> Optional[Told]:
+    """What is told of a file that was refused, or None if the verdict is not of these bytes. For a report also None
+    where a sentence would take long, as none of a file that was not made for that does."""
     found = explain(data, refused)
-    if found is None:
+    if found is None or (is_for_report and _takes_long(memoryview(data), found)):
         return None
     case = Case(memoryview(data), refused, found)
     return Told(case, STORIES[case.rule](Teller(case)))
+
+
+def _takes_long(data: memoryview, found: Explanation) -> bool:
+    """Whether there are more slices, load commands or entries of a signature than a sentence can be looked for in."""
+    entries = number_in(data, "fat_header", "nfat_arch") if bytes(data[:4]) in FAT_ENTRIES else 0
+    if entries > MOST_STEPS or (found.at.kind == "signature-entry" and (found.at.index or 0) > MOST_STEPS):
+        return True
+    if found.slice is None:
+        return False
+    start = next(part.start for part in slices_of(data) if part.kind in SLICES and part.slice == found.slice)
+    return number_in(data[start:], "mach_header_64", "sizeofcmds") > MOST_COMMANDS

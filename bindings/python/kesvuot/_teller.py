@@ -12,6 +12,8 @@ from ._structures import number_in
 Number = Tuple[str, int]
 
 NO_PART = FilePart("", None, 0, 0, 0)
+# So many opcodes of a stream, imports, or blobs are looked at for one sentence. With more, it says less.
+MOST_STEPS = 1 << 18
 
 
 class Reading(NamedTuple):

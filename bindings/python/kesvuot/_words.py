@@ -21,7 +21,7 @@ from ._profiles import DEFAULT, PROFILES
 from ._progress import Progress, is_terminal
 from ._pages import PAGES
 from ._paths import printable, shown
-from ._reports import FORMS, RULES_AND_CHOICES, VERSION, Report, Write, reason_text, report_of
+from ._reports import FORMS, RULES_AND_CHOICES, VERSION, Report, Write, reason_text, report_of, said_of
 from ._stores import add_words, check_words, for_store, manifest_of, outcomes_of
 
 if TYPE_CHECKING:
@@ -56,6 +56,7 @@ EXAMPLES = {
     "explain": """\
   kesvuot explain dist/cut                       why a file is refused
   kesvuot explain --profile sealed dist/program  the same, by all rules
+  kesvuot explain 'App.ipa!Payload/App.app/App'  a member of an archive, as check names it
   kesvuot explain --json dist/cut                an object with the parts and the numbers
 """,
     "show": """\
@@ -79,19 +80,22 @@ EXAMPLES = {
 
 class Text(Report):
     """A line for each file, or for each key of the policy that it does not meet, and the summary: the counts, a table
-    of what was found and is of another kind, and tables of the rules and of the keys if there are several. What has no
-    verdict is told on standard error."""
+    of what was found and is of another kind, and tables of the rules and of the keys if there are several. A refused
+    file can have one more line, with what is wrong with it. What has no verdict is told on standard error."""
 
     is_whole = False
 
-    def __init__(self, write: Write, profile: str, is_quiet: bool = False) -> None:
+    def __init__(self, write: Write, profile: str, is_quiet: bool = False, explains: bool = False) -> None:
         super().__init__(write, profile)
         self.is_quiet = is_quiet
+        self.of_refused = said_of if explains else None
 
     def add(self, outcome: Outcome) -> None:
         if outcome.word == REFUSED and not (outcome.is_known and self.is_quiet):
             reason = reason_text(outcome).partition(":")
             self.write(f"{shown(outcome.path)}: {coloured(reason[0], RED, sys.stdout)}:{reason[2]}\n")
+            if outcome.extra and outcome.extra.says:
+                self.write(f"  {outcome.extra.says}\n")
         elif outcome.word == NOT_BY_POLICY:
             for line in _policy_reports.lines(outcome):
                 words, colon, rest = line.partition(":")
@@ -124,7 +128,7 @@ def check(words: argparse.Namespace) -> int:
     policy = _read_policy(words)
     form = report_of(words.format) if words.format in FORMS else None
     output = Output(form.encoding, form.errors) if form else Output()
-    report = form(output.write, words.profile) if form else Text(output.write, words.profile, words.quiet)
+    report = form(output.write, words.profile) if form else Text(output.write, words.profile, words.quiet, words.explain)
     if words.no_unsupported_slices:
         report.rules = RULES_AND_CHOICES
     report.policy = policy
@@ -270,7 +274,19 @@ def _add_command(commands: Any, name: str, run: Any, summary: str, description: 
 
 def _add_rules_url(parser: argparse.ArgumentParser) -> None:
     parser.add_argument("--rules-url", default="", metavar="URL", help="the folder of the pages of the rules, to which "
-                        "reports have links (default: the installed pages)")
+                        "reports have links; without it only explain has one, to the installed pages")
+
+
+def _add_max_unpacked(parser: argparse.ArgumentParser) -> None:
+    parser.add_argument("--max-unpacked", type=_size, default=MOST_UNPACKED, metavar="SIZE",
+                        help="the most bytes to unpack of an archive (default: 16G)")
+
+
+def _add_file(parser: argparse.ArgumentParser) -> None:
+    """The file of a command that takes one, also out of an archive."""
+    _add_max_unpacked(parser)
+    parser.add_argument("file", metavar="FILE",
+                        help="a file, a member of an archive as check names it, or - for standard input")
 
 
 def _add_check(commands: Any) -> None:
@@ -283,6 +299,8 @@ gzip, bzip2 or xz) it judges the members, in memory: nothing is written.""")
                         help="a file, a folder, an archive, or - for standard input")
     parser.add_argument("--format", choices=("text", *FORMS), default="text", help="how to print what is found: text "
                         "(the default), json, jsonl, sarif, junit or github")
+    parser.add_argument("--explain", action="store_true", help="print what is wrong with each refused file, below its "
+                        "line; the other forms always have it")
     parser.add_argument("--include", action="append", default=[], metavar="PATTERN",
                         help="in folders and archives, judge only files with such a name")
     parser.add_argument("--exclude", action="append", default=[], metavar="PATTERN",
@@ -293,8 +311,7 @@ gzip, bzip2 or xz) it judges the members, in memory: nothing is written.""")
     counts.add_argument("--expect", type=_positive, metavar="N", help="fail if fewer than N files are judged")
     counts.add_argument("--allow-none", action="store_true",
                         help="do not fail if no file is judged, or none in an archive")
-    parser.add_argument("--max-unpacked", type=_size, default=MOST_UNPACKED, metavar="SIZE",
-                        help="the most bytes to unpack of an archive (default: 16G)")
+    _add_max_unpacked(parser)
     kinds = parser.add_mutually_exclusive_group()
     kinds.add_argument("--fail-other-kinds", action="store_true",
                        help="refuse files in folders and archives that say they are of another kind, such as object "
@@ -319,12 +336,12 @@ gzip, bzip2 or xz) it judges the members, in memory: nothing is written.""")
 
 def _explain(words: argparse.Namespace) -> int:
     from ._explain import explain_file
-    return explain_file(words.file, words.profile, words.json)
+    return explain_file(words.file, words.profile, words.json, words.max_unpacked)
 
 
 def _show(words: argparse.Namespace) -> int:
     from ._show import show
-    return show(words.file, words.profile, words.json, words.all)
+    return show(words.file, words.profile, words.json, words.all, words.max_unpacked)
 
 
 def _diff(words: argparse.Namespace) -> int:
@@ -334,7 +351,7 @@ def _diff(words: argparse.Namespace) -> int:
 
 def _map(words: argparse.Namespace) -> int:
     from ._map import map_file
-    return map_file(words.file, words.profile, words.output)
+    return map_file(words.file, words.profile, words.output, words.max_unpacked)
 
 
 def _policy(words: argparse.Namespace) -> int:
@@ -348,7 +365,7 @@ Says which parts of a refused file are in conflict, and shows the numbers and th
 rule, and what to do. For an accepted file it says what was not judged.""")
     _add_rules_url(parser)
     parser.add_argument("--json", action="store_true", help="print an object with all of that")
-    parser.add_argument("file", metavar="FILE", help="a file, or - for standard input")
+    _add_file(parser)
 
 
 def _add_show(commands: Any) -> None:
@@ -359,7 +376,7 @@ refused file it prints the rule.""")
     _add_rules_url(parser)
     parser.add_argument("--all", action="store_true", help="print the exports, imports and fixups too")
     parser.add_argument("--json", action="store_true", help="print an object with all fields and load commands")
-    parser.add_argument("file", metavar="FILE", help="a file, or - for standard input")
+    _add_file(parser)
 
 
 def _add_diff(commands: Any) -> None:
@@ -378,7 +395,7 @@ refused file it shows where the rule is broken, and the parts as far as the head
     _add_rules_url(parser)
     parser.add_argument("-o", "--output", default=STANDARD_OUTPUT, metavar="PAGE",
                         help="the file to write, such as map.html; otherwise standard output")
-    parser.add_argument("file", metavar="FILE", help="a file, or - for standard input")
+    _add_file(parser)
 
 
 def _add_policy(commands: Any) -> None:
