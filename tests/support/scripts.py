@@ -27,7 +27,7 @@ PROGRAM_SCRIPTS = ("mutants program command refusals oracle strict linked unambi
 LIBRARY_SCRIPTS = ("cost rebuild library python cluster tool gate stores policies archives map explain slots code"
                    " exports examples rust go fuzz recipes install").split()
 SCRIPTS = [*EARLY_SCRIPTS, *PROGRAM_SCRIPTS, *LIBRARY_SCRIPTS]
-# What needs neither a proof nor the library. The first one is no script of the gate, which runs what it has proved.
+# What needs neither a proof nor the library. The gate leaves out the first one: it runs what it has proved.
 QUICK_SCRIPTS = ["trial_runs", "command", *EARLY_SCRIPTS, "edited"]
 # The niceness of a process that runs when no other one does. (setpriority(2))
 LEAST_URGENT = 19
