@@ -1,14 +1,30 @@
-//! Views of an opened image. `tests/library` and `tests/oracle` compare the other ones.
+//! An opened image, its views and its rules. `tests/library` and `tests/oracle` compare the other views.
 
 use super::same;
-use crate::notation::{executable, written};
+use crate::notation::{BARE_HEADER, executable, written};
 use macho_fields::Bytes;
-use macho_image::{Build, Dysymtab, Image, MainCommand};
+use macho_fields::header::machine::CPU_TYPE_X86_64;
+use macho_image::{Build, Dysymtab, Image, Kind, MainCommand};
+use macho_rules::check_image;
 use std::process::Abort;
 
 /// The image that a file is.
 fn opened<'a>(rt: &impl Abort, file: &'a [u8]) -> Image<'a> {
     Image::open(Bytes::new(file), None).expect(rt, "an image")
+}
+
+#[test]
+fn open_of_a_bare_header(rt: HostRuntime) {
+    let image = opened(&rt, BARE_HEADER);
+    same(&rt, &matches!(image.kind(), Kind::Execute), &true);
+    same(&rt, &image.arch(), &(CPU_TYPE_X86_64, 3));
+    same(&rt, &image.commands().next().is_none(), &true);
+}
+
+#[test]
+fn check_image_of_a_bare_header(rt: HostRuntime) {
+    let image = opened(&rt, BARE_HEADER);
+    check_image(rt.alloc(), &image).expect(&rt, "an image that keeps all rules");
 }
 
 #[test]
