@@ -32,7 +32,7 @@ NOT_BY_POLICY = "not by the policy"
 # may be executed and is too short for it.
 OTHER_KIND = "other kind"
 STATUSES = {ACCEPTED: 0, SKIPPED: 0, OTHER_KIND: 0, REFUSED: 1, NOT_BY_POLICY: 1, NO_VERDICT: 2}
-# What is said of a link that is in a manifest, and of an archive that is named.
+# The kinds of a link in a manifest, and of an archive that the user has named.
 NO_FILE, NO_IMAGE = "link, device or pipe", "an archive without a file to judge"
 # The words for a run that has ended early.
 NOT_ALL = "not all files were judged"

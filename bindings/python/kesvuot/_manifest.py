@@ -25,7 +25,7 @@ from ._table import Table
 # The form of a manifest. A field may be added to its lines without a new version.
 SCHEMA, MANIFEST_VERSION = "kesvuot-manifest", 1
 SHA256 = re.compile("[0-9a-f]{64}")
-# The path of standard input, which is no file of a folder.
+# The path of standard input. No file of a folder has it.
 STANDARD_INPUT = "-"
 # The verdict of the profile on a file with one of these words. Others depend on what else was asked.
 VERDICTS = {ACCEPTED: ACCEPTED, NOT_BY_POLICY: ACCEPTED, REFUSED: REFUSED, OTHER_KIND: REFUSED}

@@ -9,7 +9,7 @@ from typing import Iterator
 from ._check import ACCEPTED, NO_VERDICT, REFUSED, SKIPPED, Choice, Outcome, Target, judge, open_archives
 from ._paths import SEPARATOR, path_of, shown
 
-# Between the name of an archive and that of a member, as it is printed.
+# Stands between the name of an archive and the name of a member, as they are printed.
 MARK = "!"
 # Of members with one name the outcome that comes first here is told.
 RANKS = (REFUSED, NO_VERDICT, ACCEPTED)

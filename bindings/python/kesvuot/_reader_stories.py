@@ -296,7 +296,7 @@ def symbol_total(it: Teller) -> Story:
 
 def export_symbol(it: Teller) -> Story:
     own = _Nlist(it.case.data, it.at_part)
-    # Equal numbers are none of the conflict.
+    # Equal numbers do not show the conflict.
     numbers = ("n_value", f"{'n_value' if it.second else 'address'} of the other") if it.value != it.limit else ("", "")
     return _of_symbols(it, own, numbers) if it.second else _of_export(it, own, numbers)
 

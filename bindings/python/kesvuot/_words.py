@@ -214,7 +214,7 @@ def _report_all(interrupts: Interrupts, outcomes: Iterator[Outcome], choice: Cho
         for outcome in interrupts.until(outcomes):
             if outcome.is_counted:
                 summary.add(outcome)
-            # A link has such a name too, and is not judged.
+            # A link can match a pattern too, and is not judged.
             if outcome.is_judged or outcome.word == NO_VERDICT:
                 unmatched = without_match(unmatched, outcome.path)
             told.add(outcome)
